@@ -1,4 +1,4 @@
-/* A small index: for each word the set of the documents that have it, and queries with AND, OR and NOT over these sets. */
+/* A small index: for each word the set of the documents that have it, and queries with AND, OR and NOT over these sets, in postfix order. */
 #include "bitpacking.h"
 
 #include <stdio.h>
@@ -6,9 +6,9 @@
 
 enum { DOCUMENTS = 1000 };
 
-/* The words. A document has a word if this number divides its own, which is from 1 on. */
-enum { EVEN, FIZZ, BUZZ, WORDS };
-static const uint32_t numbers[WORDS] = {2, 3, 5};
+/* The words. A document has a word if this number divides its own, which is from 1 on. No document has the last. */
+enum { EVEN, FIZZ, BUZZ, NONE, WORDS };
+static const uint32_t numbers[NONE] = {2, 3, 5};
 
 /* A set and its bytes, which are the caller's to free. */
 struct documents {
@@ -46,80 +46,69 @@ static size_t pack(const uint32_t *ids, size_t count, struct documents *document
 }
 
 /* The set of the documents that have a word. */
-static size_t pack_word(int word, struct documents *documents)
+static size_t pack_word(uint32_t number, struct documents *documents)
 {
     uint32_t ids[DOCUMENTS], k;
     size_t count = 0;
 
     for (k = 1; k <= DOCUMENTS; k++)
-        if (k % numbers[word] == 0)
+        if (k % number == 0)
             ids[count++] = k;
     return pack(ids, count, documents);
 }
 
-typedef ptrdiff_t (*operation)(const bitpacking_set *views, size_t views_len, uint32_t *ids, size_t ids_len);
+/* Queries, and their steps: each operation takes the last two operands. */
+static const struct query {
+    const char *text;
+    size_t steps_len;
+    uint32_t steps[5];
+} queries[] = {
+    {"fizz AND buzz AND even", 5, {FIZZ, BUZZ, BITPACKING_AND, EVEN, BITPACKING_AND}},
+    {"fizz OR buzz", 3, {FIZZ, BUZZ, BITPACKING_OR}},
+    {"even NOT fizz", 3, {EVEN, FIZZ, BITPACKING_AND_NOT}},
+    {"(fizz OR buzz) NOT even", 5, {FIZZ, BUZZ, BITPACKING_OR, EVEN, BITPACKING_AND_NOT}},
+    {"fizz AND odd", 3, {FIZZ, NONE, BITPACKING_AND}},
+};
 
-/* The set that an operation makes of others. Returns the number of its bytes. */
-static size_t combine(operation operation, const bitpacking_set *views, size_t count, struct documents *documents)
+/* Answers a query over the sets of the words, and prints the answer. */
+static void ask(const struct query *query, const bitpacking_set *views)
 {
-    size_t room = 0, i, size;
-    uint32_t *ids;
-
-    for (i = 0; i < count; i++)
-        room += bitpacking_set_len(&views[i]); /* enough for each of the operations */
-    ids = checked(malloc((room + 1) * sizeof *ids));
-    size = pack(ids, (size_t)operation(views, count, ids, room), documents); /* not negative: there is room */
-    free(ids);
-    return size;
-}
-
-static void print(const char *query, size_t size, const struct documents *documents)
-{
-    uint32_t id;
-    size_t i;
-
-    printf("%s: %u documents in %u bytes, [", query, (unsigned)bitpacking_set_len(&documents->view), (unsigned)size);
-    for (i = 0; i < 4 && bitpacking_set_get(&documents->view, i, &id); i++)
-        printf(i == 0 ? "%u" : ", %u", (unsigned)id);
-    printf("] ..\n");
-}
-
-/* Answers a query over sets, and prints the answer. */
-static struct documents ask(const char *query, operation operation, const bitpacking_set *views, size_t count)
-{
+    uint64_t space[BITPACKING_QUERY_SPACE(2)], next = 0; /* two operands wait at once */
+    uint32_t ids[DOCUMENTS];
     struct documents answer;
-    size_t size = combine(operation, views, count, &answer);
+    size_t position, size, i;
+    ptrdiff_t count;
 
-    print(query, size, &answer);
-    return answer;
+    count = bitpacking_set_query(views, WORDS, query->steps, query->steps_len, space, BITPACKING_QUERY_SPACE(2), &next,
+                                 ids, DOCUMENTS, &position);
+    if (count < 0) {
+        fprintf(stderr, "%s: %s\n", query->text, bitpacking_error_text(count));
+        exit(EXIT_FAILURE);
+    }
+    size = pack(ids, (size_t)count, &answer);
+    printf("%s: %u documents in %u bytes, [", query->text, (unsigned)count, (unsigned)size);
+    for (i = 0; i < 4 && i < (size_t)count; i++)
+        printf(i == 0 ? "%u" : ", %u", (unsigned)ids[i]);
+    printf("] ..\n");
+    free(answer.bytes);
 }
 
 int main(void)
 {
-    struct documents index[WORDS], none, answers[5];
-    bitpacking_set views[3];
-    size_t size = 0;
-    int i;
+    const bitpacking_set none = BITPACKING_SET_EMPTY;
+    struct documents index[NONE];
+    bitpacking_set views[WORDS];
+    size_t size = 0, i;
 
-    for (i = 0; i < WORDS; i++)
-        size += pack_word(i, &index[i]);
-    pack(NULL, 0, &none); /* of a word that no document has */
-    printf("%d words in %u bytes\n", WORDS, (unsigned)size);
-
-    views[0] = index[FIZZ].view, views[1] = index[BUZZ].view, views[2] = index[EVEN].view;
-    answers[0] = ask("fizz AND buzz AND even", bitpacking_set_intersect, views, 3);
-    answers[1] = ask("fizz OR buzz", bitpacking_set_unite, views, 2);
-    views[0] = index[EVEN].view, views[1] = index[FIZZ].view;
-    answers[2] = ask("even NOT fizz", bitpacking_set_subtract, views, 2);
-    views[0] = answers[1].view, views[1] = index[EVEN].view;
-    answers[3] = ask("(fizz OR buzz) NOT even", bitpacking_set_subtract, views, 2);
-    views[0] = index[FIZZ].view, views[1] = none.view;
-    answers[4] = ask("fizz AND odd", bitpacking_set_intersect, views, 2);
-
-    for (i = 0; i < WORDS; i++)
+    for (i = 0; i < NONE; i++) {
+        size += pack_word(numbers[i], &index[i]);
+        views[i] = index[i].view;
+    }
+    views[NONE] = none;
+    printf("%d words in %u bytes\n", NONE, (unsigned)size);
+    for (i = 0; i < sizeof queries / sizeof *queries; i++)
+        ask(&queries[i], views);
+    for (i = 0; i < NONE; i++)
         free(index[i].bytes);
-    for (i = 0; i < 5; i++)
-        free(answers[i].bytes);
-    free(none.bytes);
     return EXIT_SUCCESS;
 }

@@ -4,6 +4,7 @@
  *     chains     many blocks. The caller stores the width of each.
  *     sets       increasing ids. AND, OR, AND NOT and searches work on the packed bytes.
  *     columns    integers in any order or sorted, such as times and prices, read by position and by range.
+ *     terms      words of a search, each a set and a column: the documents with the greatest scores are found.
  *
  * docs/C.md of the repository has a program for each, and docs/FORMAT.md describes each byte. The functions are in libbitpacking.a. A few are
  * `static inline` here too, and bitpacking_error_text is only here: see "Inline functions" in docs/C.md.
@@ -30,7 +31,7 @@ extern "C" {
 #endif
 
 /* The version of this header: 1000000 times the major number, 1000 times the minor one, and the number of the patch. */
-#define BITPACKING_VERSION 1000000
+#define BITPACKING_VERSION 2000000
 
 /* Returns the version of the archive, which is BITPACKING_VERSION if both are of one version. */
 uint32_t bitpacking_version(void);
@@ -41,15 +42,20 @@ uint32_t bitpacking_version(void);
  * so. A comment lists the errors of a call, without BITPACKING_, in the order of their tests: the call returns the first that applies. */
 
 /* What an argument has. */
-#define BITPACKING_BAD_LENGTH (-1)   /* blocks, chains: the values are not whole blocks, or there is no room for them */
+#define BITPACKING_BAD_LENGTH (-1)   /* blocks, chains: the values are not whole blocks, or no room for them; terms: not as many ids as counts */
 #define BITPACKING_BAD_WIDTH (-2)    /* blocks, chains: a width is above BITPACKING_MAX_WIDTH */
 #define BITPACKING_SHORT (-3)        /* a buffer is too short: for what is written, or of a block or a chain for what is read */
 #define BITPACKING_UNFIT (-4)        /* blocks: a value does not fit the width */
 #define BITPACKING_BAD_POSITION (-5) /* columns: a position is not below the number of values */
 #define BITPACKING_BAD_BLOCK (-6)    /* columns: there is no whole block with this number */
 #define BITPACKING_BAD_BASE (-7)     /* a base is above BITPACKING_MAX_BASE, or a value with the base is above 2^32 - 1 in a join */
+#define BITPACKING_NO_SET (-8)       /* queries: a step names no view */
+#define BITPACKING_TOO_DEEP (-9)     /* queries: more than 64 operands wait for their operations */
+#define BITPACKING_NO_OPERAND (-10)  /* queries: an operation lacks an operand */
+#define BITPACKING_LEFT_OVER (-11)   /* queries: after the last step there is no operand, or more than one */
+#define BITPACKING_BAD_TABLE (-12)   /* terms: the parts of scores are not a table */
 #define BITPACKING_BAD_KIND (-23)    /* columns: no kind has this number, or a search is in a plain column */
-#define BITPACKING_TOO_LONG (-25)    /* more than 268,435,456 values or ids; opened bytes have it too */
+#define BITPACKING_TOO_LONG (-25)    /* more than 268,435,456 values, ids or terms; opened bytes have it too */
 #define BITPACKING_NOT_SORTED (-30)  /* a value or an id is out of order; opened bytes have it too */
 
 /* What is wrong with bytes that are opened: -20 less the number of the fault in docs/FORMAT.md, which has the order of the tests. */
@@ -87,6 +93,16 @@ static inline const char *bitpacking_error_text(ptrdiff_t number)
         return "There is no block with this number.";
     case BITPACKING_BAD_BASE:
         return "The base is above 2^64 - 2^32, or a value with it does not fit.";
+    case BITPACKING_NO_SET:
+        return "A step of the query names no set.";
+    case BITPACKING_TOO_DEEP:
+        return "More than 64 operands of the query wait for their operations.";
+    case BITPACKING_NO_OPERAND:
+        return "An operation of the query lacks an operand.";
+    case BITPACKING_LEFT_OVER:
+        return "The query does not leave one operand.";
+    case BITPACKING_BAD_TABLE:
+        return "The parts of scores are not a table.";
     case BITPACKING_BAD_KIND:
         return "No kind has this number, or the column is plain, and a plain column has no order.";
     case BITPACKING_TOO_LONG:
@@ -455,6 +471,43 @@ ptrdiff_t bitpacking_set_symmetric_difference(const bitpacking_set *first, const
 int32_t bitpacking_set_is_subset(const bitpacking_set *first, const bitpacking_set *second);
 int32_t bitpacking_set_is_disjoint(const bitpacking_set *first, const bitpacking_set *second);
 
+/* The operations of a query. Other steps are indexes of views. */
+#define BITPACKING_AND UINT32_MAX
+#define BITPACKING_OR (UINT32_MAX - 1)
+#define BITPACKING_AND_NOT (UINT32_MAX - 2)
+#define BITPACKING_XOR (UINT32_MAX - 3)
+
+/* The work space of a query for which this many operands wait at once: 8 KB for each. */
+#define BITPACKING_QUERY_SPACE(operands) (1024 * sizeof(uint8_t) * (operands))
+
+/* Writes the next ids of a query, which is a tree of operations on views of sets. Its steps are in postfix order: a step is the index of a view, or
+ * an operation, which takes the last two operands, the earlier as its first, and leaves one. Views may be named more than once.
+ *
+ * It writes the ids from *next on to the front of ids, in increasing order, as many as there are and fit, and returns how many these are. It sets
+ * *next to the least id that can come after them, so that the next call goes on there. After the last id it returns 0. Begin with 0, and raise
+ * *next to pass over ids: any number is allowed. After the ids, any item of ids may have changed.
+ *
+ * space is work space, which may hold anything. It needs BITPACKING_QUERY_SPACE(operands) items for the most operands that wait at once: for the
+ * steps 0 1 OR 2 AND these are 2, and for 0 1 2 OR AND 3. Each call reads the sets anew from *next on: pass room for thousands of ids. A call takes
+ * about 12 KB of stack.
+ *
+ *     const uint32_t steps[] = {0, 1, BITPACKING_OR, 2, BITPACKING_AND_NOT};
+ *     uint64_t space[BITPACKING_QUERY_SPACE(2)], next = 0;
+ *     ...
+ *     while ((count = bitpacking_set_query(sets, 3, steps, 5, space, BITPACKING_QUERY_SPACE(2), &next, ids, 10000, &position)) > 0)
+ *         ...
+ *
+ * The first step with one of the first three errors decides, and *position is its position, from 0 on.
+ *
+ *     NO_SET        a step is the index of no view
+ *     TOO_DEEP      a view would be the 65th operand that waits
+ *     NO_OPERAND    fewer than two operands wait for an operation
+ *     LEFT_OVER     not one operand is left after the last step, but *position of them: 0 if there are no steps
+ *     SHORT         space_len is below BITPACKING_QUERY_SPACE(*position): *position operands wait at once
+ */
+ptrdiff_t bitpacking_set_query(const bitpacking_set *views, size_t views_len, const uint32_t *steps, size_t steps_len,
+                               uint64_t *space, size_t space_len, uint64_t *next, uint32_t *ids, size_t ids_len, size_t *position);
+
 /* Calls that combine a set with the increasing ids of an array, in the array. They return how many ids are in its front then.
  *
  *     NOT_SORTED    the ids of the array do not increase
@@ -793,6 +846,74 @@ static inline ptrdiff_t bitpacking_column_join_inline(const bitpacking_column *v
 #define bitpacking_column_append(...) bitpacking_column_append_inline(__VA_ARGS__)
 #define bitpacking_column_join(...) bitpacking_column_join_inline(__VA_ARGS__)
 #endif
+
+/* ---- Ranked search
+ *
+ * A term is a word of a query: the set of the documents that have it, a column of how often each of them has it, and a table of what this adds to
+ * the score of a document.
+ *
+ * The table has a row of 256 parts for each count from 0 on, and in each row a part for each class of the lengths of documents. Part
+ * 256 * count + class is added. The last row is also for greater counts. Class 0 is for the shortest documents: no part is above the first of its
+ * row, and in each class the parts do not fall from one count to the next.
+ *
+ * A term has the rules of a view: it borrows the bytes of its views and the table, and only bitpacking_term_start may write its fields. Set it to
+ * BITPACKING_TERM_EMPTY before anything else, or all of it to zero: each is a word that no document has. The two views may go before it.
+ */
+typedef struct bitpacking_term {
+    bitpacking_set set;
+    bitpacking_column counts;
+    const uint32_t *table;
+    size_t table_len;
+} bitpacking_term;
+
+#define BITPACKING_TERM_EMPTY {BITPACKING_SET_EMPTY, BITPACKING_COLUMN_EMPTY, NULL, 0}
+
+/* How many classes there are: a table has as many parts in each row. */
+#define BITPACKING_CLASSES 256
+
+/* Starts a term. Returns 0. Each number of the table is read, so start a term once and use it in many queries.
+ *
+ *     BAD_LENGTH    the set has more ids than the column has values, or fewer
+ *     BAD_TABLE     the table is empty, has a row that is not whole, or its parts are not in the order above
+ */
+ptrdiff_t bitpacking_term_start(bitpacking_term *term, const bitpacking_set *set, const bitpacking_column *counts,
+                                const uint32_t *table, size_t table_len);
+
+/* Work space for a term. It may hold anything. After a query, `unpacked` is how many blocks of 128 counts were unpacked for the term. */
+typedef struct bitpacking_walk {
+    size_t unpacked;
+    size_t len;
+    uint32_t low;
+    uint32_t counts[128];
+    uint32_t ids[128];
+} bitpacking_walk;
+
+#define BITPACKING_WALK_EMPTY {0, 0, 0, {0}, {0}}
+
+/* A document with its score, which adds up the part of each word that it has. */
+typedef struct bitpacking_scored {
+    uint64_t score;
+    uint32_t id;
+} bitpacking_scored;
+
+#define BITPACKING_SCORED_EMPTY {0, 0}
+
+/* Writes the best of the documents that have at least `at_least` of the words to the front of found, the best of them first, as many as there are
+ * and fit, and returns how many these are. A document with a greater score comes first, and of two with the same score the one with the lower id.
+ * After them, any item of found may have changed.
+ *
+ * classes has the class of each document by its id. Documents after its end have class 0. With at_least of 1 or 0 it is a query by OR, and with
+ * terms_len by AND. Each term needs one of walks. Put the rarest word first: that is fastest. A call takes about 6 KB of stack.
+ *
+ *     bitpacking_walk walks[2];
+ *     bitpacking_scored found[10];
+ *     count = bitpacking_best(terms, 2, classes, classes_len, 1, walks, 2, found, 10);
+ *
+ *     TOO_LONG      terms_len is above 268,435,456
+ *     SHORT         walks_len is below terms_len
+ */
+ptrdiff_t bitpacking_best(const bitpacking_term *terms, size_t terms_len, const uint8_t *classes, size_t classes_len, size_t at_least,
+                          bitpacking_walk *walks, size_t walks_len, bitpacking_scored *found, size_t found_len);
 
 #ifdef __cplusplus
 }

@@ -16,6 +16,8 @@ BESIDE = {"x86_64": "rust/out", "aarch64": "rust/out/aarch64-unknown-linux-gnu"}
 def archive():
     prefix = os.environ.get("BITPACKING")
     if prefix:
+        # A relative one begins in the folder of the shell, from where pip may build another.
+        prefix = next((it for it in (os.path.join(os.environ.get("PWD", ""), prefix), prefix) if os.path.isdir(it)), prefix)
         return prefix, f"{prefix}/lib/libbitpacking.a"
     return ABOVE, f"{ABOVE}/{BESIDE.get(platform.machine(), 'rust/out')}/libbitpacking.a"
 

@@ -1,4 +1,4 @@
-"""The writer of the columns of docs/FORMAT.md. It goes with vectors/model.py, after the functions of that page."""
+"""The writer of the columns of docs/FORMAT.md. It goes with vectors/model.py, after decoders.py."""
 
 
 def column_codes(kind, before, values):

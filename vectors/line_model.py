@@ -1,4 +1,4 @@
-"""A line program: an answer for each line of docs/LINES.md, by the functions of docs/FORMAT.md and vectors/model.py.
+"""A line program: an answer for each line of docs/LINES.md, by vectors/decoders.py and model.py.
 
 `scripts/test/vectors.py` runs this file after those, and again with each mistake of vectors/mistakes/lines.txt.
 """

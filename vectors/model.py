@@ -1,7 +1,4 @@
-"""The calls that docs/FORMAT.md describes and does not show: what a reader writes on top of its decoders.
-
-`scripts/test/vectors.py` runs this file after the functions of that page, and again with each mistake of vectors/mistakes/.
-"""
+"""Blocks, chains and lists written by docs/FORMAT.md, and what a reader calls on top of its decoders. It goes after vectors/decoders.py."""
 
 
 def start_of(kind, spelled):

@@ -1,9 +1,10 @@
 """Bytes that no column has. Faults are by hand from the order of docs/FORMAT.md, or follow from how the bytes were changed. Only the faults of
-texts with drawn bytes are found by the decoder of that page."""
+texts with drawn bytes are found by decoders.py."""
 
 from columns import WORKED, blocks_text, column_text, header
+from decoders import decode_column
 from parts import CUT_NUMBERS, MOST, NO_NUMBERS, body_of, drawn, group, number
-from refused_id_sets import decoder, fault_of
+from refused_id_sets import fault_of
 
 # Bytes worked by hand.
 WORKED_REFUSALS = {
@@ -218,9 +219,8 @@ def drawn_texts():
 
 def damaged_columns():
     """The drawn texts with their fault, or with their kind and values."""
-    decode = decoder("decode_column")
     for text in {text: None for text in drawn_texts()}:
-        yield text, *fault_of(decode, text)
+        yield text, *fault_of(decode_column, text)
 
 
 def refused_columns():

@@ -1,10 +1,9 @@
 """Bytes that no set has. Faults are by hand from the order of docs/FORMAT.md, or follow from how the bytes were changed. Only the faults of
-texts with drawn bytes are found by the decoder of that page."""
+texts with drawn bytes are found by decoders.py."""
 
-import re
-
+from decoders import decode_set
 from id_sets import FILL, WORKED, array_of, chunked, few_of, pairs_of, placed, set_text, spread
-from parts import CUT_NUMBERS, FOLDER, MOST, NO_NUMBERS, drawn, group, number
+from parts import CUT_NUMBERS, MOST, NO_NUMBERS, drawn, group, number
 
 # Bytes worked by hand.
 WORKED_REFUSALS = {
@@ -262,14 +261,6 @@ def cut_sets():
             yield "Trailing", text + bytes([byte])
 
 
-def decoder(name):
-    """A decoder of docs/FORMAT.md."""
-    names = {}
-    with open(f"{FOLDER}/../docs/FORMAT.md", encoding="utf-8") as file:
-        exec("\n".join(re.findall(r"^```python\n(.*?)^```$", file.read(), re.M | re.S)), names)
-    return names[name]
-
-
 def fault_of(decode, text):
     """The fault of a text and nothing, or nothing and what it encodes."""
     try:
@@ -294,7 +285,6 @@ def drawn_texts():
 
 def damaged_sets():
     """The drawn texts with their fault, or with their ids."""
-    decode_set = decoder("decode_set")
     for text in {text: None for text in drawn_texts()}:
         yield text, *fault_of(decode_set, text)
 

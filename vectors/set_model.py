@@ -1,4 +1,4 @@
-"""The writer of the id sets of docs/FORMAT.md. It goes with vectors/model.py, after the functions of that page."""
+"""The writer of the id sets of docs/FORMAT.md. It goes with vectors/model.py, after decoders.py."""
 
 
 def slice_bytes(lows):

@@ -36,6 +36,7 @@ pub mod chain;
 pub mod column;
 mod growing;
 mod index;
+mod iterator;
 mod packers;
 pub mod ranked;
 mod room;

@@ -84,7 +84,8 @@ impl<'a> Term<'a> {
 /// If there are more than 2^31 words.
 pub fn best(terms: &[Term<'_>], classes: &[u8], at_least: usize, most: usize) -> Vec<Scored> {
     assert!(terms.len() <= 1 << 31, "there are more than 2^31 words");
-    let terms: Vec<ranking::Term<'_>> = terms.iter().map(|term| term.0).collect();
+    let mut terms: Vec<ranking::Term<'_>> = terms.iter().map(|term| term.0).collect();
+    terms.sort_by_key(|term| ranking::AsTerm::ids(term).len());
     let documents = terms.iter().map(|term| ranking::AsTerm::ids(term).len()).fold(0, usize::saturating_add);
     let mut found = vec![Scored { score: 0, id: 0 }; most.min(documents)];
     let mut walks = vec![ranking::Walk::new(); terms.len()];

@@ -5,6 +5,15 @@
 
 use core::ops::{Add, BitAnd, BitOr, Shl, Shr, Sub};
 
+/// The operations of a machine. Each is always inlined, since it is one instruction or few.
+macro_rules! operations {
+    ($($(#[$attribute:meta])* fn $name:ident($($given:ident: $of:ty),*) $(-> $result:ty)? $body:block)*) => {
+        $($(#[$attribute])*
+        #[inline(always)]
+        pub(super) fn $name($($given: $of),*) $(-> $result)? $body)*
+    };
+}
+
 #[cfg(all(any(target_arch = "x86", target_arch = "x86_64"), target_feature = "sse2"))]
 #[path = "simd/four_sse2.rs"]
 mod four;

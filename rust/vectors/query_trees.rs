@@ -46,7 +46,7 @@ impl Chance {
         self.0 ^= self.0 << 13;
         self.0 ^= self.0 >> 7;
         self.0 ^= self.0 << 17;
-        (self.0 >> 11) as usize % bound
+        ((self.0 >> 11) % bound as u64) as usize
     }
 }
 

@@ -1,14 +1,10 @@
 #!/usr/bin/env python3
-"""Times blocks and columns: how many integers a second are packed, unpacked and measured, for a table and a picture of docs/SPEED.md:
+"""Times blocks and columns from C. Prints the tables of docs/SPEED.md: billions of integers a second of blocks, at each level of x86-64 that this
+processor has, and nanoseconds of calls on columns:
 
-    block_speed.py [--core N] [--rounds N]
-
-For each level of x86-64 that this processor has it compiles scripts/bench/blocks.c over the archive of the level, which
-scripts/build/archives.py wrote, and runs it on one core. It writes docs/speed/blocks.tsv, which scripts/bench/pictures.py draws, and prints
-the table, in billions of integers a second. Nothing rests on them.
+    scripts/bench/block_speed.py [--core N] [--rounds N]
 """
 import argparse
-import os
 import sys
 import tempfile
 
@@ -17,53 +13,57 @@ from common import ROOT, run
 import archives
 import measured
 
-PROGRAM, TABLE = "scripts/bench/blocks.c", "docs/speed/blocks.tsv"
 KINDS = ["plain", "sorted", "strict"]
-# The last call measures the least width of a block, and opens a column.
-CALLS = ["pack", "unpack", "width"]
+# How often each level has its turn.
+PASSES = 3
+BLOCK_CALLS = ["pack", "unpack", "width"]
+COLUMN_CALLS = ["bits a value", "pack", "open", "unpack", "`get`", "`gather`", "`seek`", "`count_between`", "append 1,000"]
 
 
 def timed(level, core, rounds):
-    """The speeds of a level, in integers a second, by packer, kind and call. It is empty if this processor lacks the level."""
+    """What scripts/bench/blocks.c prints over the library of a level, as lists of words: none if this processor lacks the level."""
     with tempfile.TemporaryDirectory(prefix="speed-") as folder:
-        names = [f"-I{ROOT}/include", f"{ROOT}/{PROGRAM}", archives.archive(level)]
+        names = [f"-I{ROOT}/include", f"{ROOT}/scripts/bench/blocks.c", measured.library(level)]
         built = run("cc", "-std=c99", "-O2", *names, "-o", f"{folder}/blocks")
         if built.returncode != 0:
-            sys.exit(f"block_speed.py: {built.stdout}")
-        done = run("taskset", "-c", str(core), f"{folder}/blocks", str(rounds))
-    lines = done.stdout.splitlines() if done.returncode == 0 else []
-    print(*(f"{level}: {line[2:]}" for line in lines if line.startswith("#")), sep="\n")
-    rows = [line.split("\t") for line in lines if not line.startswith("#")]
-    return {(packer, KINDS[int(kind)], call): float(it) for packer, kind, *speeds in rows for call, it in zip(CALLS, speeds)}
+            sys.exit(built.stdout)
+        done = run("taskset", "-c", core, f"{folder}/blocks", rounds)
+    return [line.split("\t") for line in done.stdout.splitlines()] if done.returncode == 0 else []
 
 
-def table(found):
-    """The rows of the page: of each packer and kind the speeds of the calls, those of the levels after each other."""
-    levels = list(found)
-    yield f"| Packer, kind | {' | '.join(CALLS)} |"
-    yield "|---" * (1 + len(CALLS)) + "|"
-    for packer, kind in dict.fromkeys(key[:2] for key in found[levels[0]]):
-        cells = ["/".join(f"{found[level][packer, kind, call] / 1e9:.2f}" for level in levels) for call in CALLS]
-        yield f"| {packer}, {kind} | {' | '.join(cells)} |"
+def best(one, other):
+    """Of two rows of a pass the better one, word by word: more integers a second, or fewer nanoseconds."""
+    pick = max if one[0] == "block" else min
+    return [*one[:3], *(pick(its, key=float) for its in zip(one[3:], other[3:]))]
+
+
+def cell(nanoseconds):
+    return f"{nanoseconds:.3g}" if nanoseconds < 1000 else f"{nanoseconds / 1000:.0f} µs"
 
 
 def main():
-    parser = argparse.ArgumentParser(description=__doc__, formatter_class=argparse.RawDescriptionHelpFormatter)
-    parser.add_argument("--core", type=int, default=0)
-    parser.add_argument("--rounds", type=int, default=25)
-    given = parser.parse_args()
-    if archives.build()[1] > 0:
-        return 1
-    found = {level: timed(level, given.core, given.rounds) for level in archives.LEVELS.values()}
-    found = {level: speeds for level, speeds in found.items() if speeds}
-    numbers = measured.Numbers(f"{ROOT}/{TABLE}")
-    for level, speeds in found.items():
-        for (packer, kind, call), speed in speeds.items():
-            numbers.add(call, packer, speed, kind, level)
-    numbers.save()
-    print(f"{measured.machine_name()}, load {os.getloadavg()[0]:.0f}; levels {', '.join(found)}", *table(found), sep="\n")
-    return 0
+    parser = argparse.ArgumentParser()
+    parser.add_argument("--core", default="0")
+    parser.add_argument("--rounds", default="9")
+    given, found = parser.parse_args(), {}
+    for _ in range(PASSES):
+        for level in archives.LEVELS.values():
+            rows = timed(level, given.core, given.rounds)
+            if rows:
+                found[level] = [best(*both) for both in zip(found.get(level, rows), rows)]
+    print(measured.head(measured.library("x86-64")))
+    blocks = {}
+    for _, packer, kind, *speeds in (row for rows in found.values() for row in rows if row[0] == "block"):
+        for call, speed in zip(BLOCK_CALLS, speeds):
+            blocks.setdefault(f"{packer}, {KINDS[int(kind)]}", {}).setdefault(call, []).append(f"{float(speed) / 1e9:.2f}")
+    rows = [(name, {call: "/".join(its) for call, its in cells.items()}) for name, cells in blocks.items()]
+    measured.show(f"at {'/'.join(found)}", BLOCK_CALLS, rows)
+    columns = []
+    for _, kind, bound, *cells in (row for row in [*found.values()][-1] if row[0] == "column"):
+        name = f"{'sorted, gaps' if kind == '1' else 'plain,'} below {int(bound):,}"
+        columns.append((name, {call: cell(float(it)) for call, it in zip(COLUMN_CALLS, cells) if kind == "1" or call != "`seek`"}))
+    measured.show(f"a million values, at {[*found][-1]}", COLUMN_CALLS, columns)
 
 
 if __name__ == "__main__":
-    sys.exit(main())
+    main()

@@ -1,39 +1,41 @@
-"""Measured numbers, and the machine that they are of."""
-
+"""What the benches share: the machine, the library, calls that take turns, and tables as docs/SPEED.md has them."""
 import os
-import sys
 import time
 
 import archives
+import by_cargo
 
 
-def machine_name():
-    """What the processor says that it is."""
+def library(level=None):
+    """The archive that is measured, of a level or for all: the proved one, if scripts/build/archives.py left it, or else what cargo builds."""
+    path = archives.archive(level) if level else f"{archives.OUT}/{archives.ALL}"
+    if os.path.isfile(path) and not archives.are_fast():
+        return path
+    return by_cargo.archive(level) if level else by_cargo.for_all()
+
+
+def head(path=""):
+    """What a page says of a run: the day, the processor, the load, and who compiled the library."""
     with open("/proc/cpuinfo", encoding="ascii") as file:
         fields = dict(map(str.strip, line.split(":", 1)) for line in file.read().split("\n\n")[0].split("\n"))
-    return f"{fields.get('model name')}, family {fields.get('cpu family')}, model {fields.get('model')}, {os.cpu_count()} cores"
+    compiler = {"": "", archives.OUT: ", the proved library"}.get(path and path[: len(archives.OUT)], ", the library by cargo")
+    machine = f"{fields.get('model name')}, model {fields.get('model')}, {os.cpu_count()} cores"
+    return f"{time.strftime('%Y-%m-%d')}, {machine}, load {os.getloadavg()[0]:.0f}{compiler}"
 
 
-class Numbers:
-    """What was measured: the least of all passes. It is written to a file, if there is one."""
+def turns(ways, rounds, clock=time.process_time):
+    """The least seconds of each call, by its name. In each round each has its turn."""
+    least = {}
+    for _ in range(rounds):
+        for name, call in ways.items():
+            start = clock()
+            call()
+            least[name] = min(least.get(name, 1e9), clock() - start)
+    return least
 
-    def __init__(self, path=None):
-        self.best, self.path = {}, path
 
-    def add(self, measure, way, value, part="", threads=""):
-        key = (measure, way, part, str(threads))
-        self.best[key] = min(value, self.best.get(key, value))
-
-    def get(self, measure, way, part="", threads=""):
-        return self.best.get((measure, way, part, str(threads)))
-
-    def save(self):
-        if not self.path:
-            return
-        if archives.are_fast():
-            sys.exit(f"{self.path} is not written: the archives are not proved")
-        with open(self.path, "w", encoding="ascii") as file:
-            file.write(
-                f"# {time.strftime('%Y-%m-%d')}, {machine_name()}, load {os.getloadavg()[0]:.1f}\nmeasure\tway\tset\tthreads\tvalue\n"
-            )
-            file.writelines("\t".join([*key, f"{value:.9g}"]) + "\n" for key, value in self.best.items())
+def show(title, columns, rows):
+    """Prints a table: the rows are their names, each with its cells by column, and a cell that is not there is empty."""
+    print(f"\n{'| '.join([title, *columns])}\n---{'|---' * len(columns)}")
+    for name, cells in rows:
+        print("| ".join([name, *(f"{cells.get(column, '')}" for column in columns)]).rstrip(" |"), flush=True)

@@ -1,70 +1,50 @@
 #!/usr/bin/env python3
-"""Times the Python package beside numpy, CRoaring (by ctypes, as a package of Python would call it), sets and zlib:
+"""Times the Python package beside numpy, and CRoaring by ctypes, as a package of Python would call it. Prints the table of docs/SPEED.md:
 
-    python_speed.py [--rounds N]
+    scripts/bench/python_speed.py [--rounds N]
 
-It runs with a Python that has numpy and the package, as scripts/test/python.py installs it. The ways of a row take turns, and the least
-processor time of the rounds counts. It prints tables for docs/SPEED.md. Nothing rests on them.
+It compiles the package for the Python that has numpy, as scripts/quick does, and runs there.
 """
 import argparse
 import ctypes
 import io
 import os
-import re
-import time
-import zlib
+import sys
 
-import fimulowen
-import numpy as np
+sys.path.insert(1, f"{sys.path[0]}/..")
+from common import ROOT, run
+import install
+import measured
+import python
 
-COUNT, SHORT = 1_000_000, 100_000
-RANGES = [2_000_000, 10_000_000, 1_000_000_000]
+COUNT, RANGES = 1_000_000, [2_000_000, 10_000_000, 1_000_000_000]
+FOLDER = f"{ROOT}/out/bench"
 
 
 class Roaring:
-    """The functions of libroaring that are timed."""
+    """The functions of libroaring that are timed. A bitmap is its address."""
 
-    CALLS = {
-        "of_ptr": (ctypes.c_void_p, [ctypes.c_size_t, ctypes.c_void_p]),
-        "and": (ctypes.c_void_p, [ctypes.c_void_p] * 2),
-        "or": (ctypes.c_void_p, [ctypes.c_void_p] * 2),
-        "andnot": (ctypes.c_void_p, [ctypes.c_void_p] * 2),
-        "and_cardinality": (ctypes.c_uint64, [ctypes.c_void_p] * 2),
-        "get_cardinality": (ctypes.c_uint64, [ctypes.c_void_p]),
-        "to_uint32_array": (None, [ctypes.c_void_p] * 2),
-        "free": (None, [ctypes.c_void_p]),
-        "portable_size_in_bytes": (ctypes.c_size_t, [ctypes.c_void_p]),
-        "portable_serialize": (ctypes.c_size_t, [ctypes.c_void_p] * 2),
-        "portable_deserialize_safe": (ctypes.c_void_p, [ctypes.c_void_p, ctypes.c_size_t]),
-    }
+    CALLS = {"of_ptr": "zp", "and": "pp", "or": "pp", "andnot": "pp", "portable_deserialize_safe": "pz"}
+    NUMBERS = {"and_cardinality": "pp", "get_cardinality": "p", "portable_size_in_bytes": "p", "portable_serialize": "pp"}
+    NOTHING = {"to_uint32_array": "pp", "free": "p"}
 
     def __init__(self):
-        library = ctypes.CDLL("libroaring.so.0")
+        library, types = ctypes.CDLL("libroaring.so.0"), {"p": ctypes.c_void_p, "z": ctypes.c_size_t}
         self.calls = {}
-        for name, (returned, given) in self.CALLS.items():
-            call = getattr(library, f"roaring_bitmap_{name}")
-            call.restype, call.argtypes = returned, given
-            self.calls[name] = call
+        for calls, returned in (self.CALLS, ctypes.c_void_p), (self.NUMBERS, ctypes.c_uint64), (self.NOTHING, None):
+            for name, given in calls.items():
+                self.calls[name] = call = getattr(library, f"roaring_bitmap_{name}")
+                call.restype, call.argtypes = returned, [types[it] for it in given]
+
+    def array(self, bitmap, is_mine=False):
+        out = np.empty(self.calls["get_cardinality"](bitmap), "u4")
+        self.calls["to_uint32_array"](bitmap, out.ctypes.data)
+        if is_mine:
+            self.calls["free"](bitmap)
+        return out
 
     def of(self, values):
         return self.calls["of_ptr"](len(values), values.ctypes.data)
-
-    def array(self, bitmap):
-        out = np.empty(self.calls["get_cardinality"](bitmap), "u4")
-        self.calls["to_uint32_array"](bitmap, out.ctypes.data)
-        return out
-
-    def joined(self, name, one, other):
-        bitmap = self.calls[name](one, other)
-        out = self.array(bitmap)
-        self.calls["free"](bitmap)
-        return out
-
-    def size(self, values):
-        bitmap = self.of(values)
-        size = self.calls["portable_size_in_bytes"](bitmap)
-        self.calls["free"](bitmap)
-        return size
 
     def saved(self, values):
         bitmap = self.of(values)
@@ -73,37 +53,6 @@ class Roaring:
         self.calls["free"](bitmap)
         return out
 
-    def read(self, saved):
-        bitmap = self.calls["portable_deserialize_safe"](saved, len(saved))
-        out = self.array(bitmap)
-        self.calls["free"](bitmap)
-        return out
-
-
-def timed(rounds, ways):
-    """The least milliseconds of each way, which take turns."""
-    least = {}
-    for _ in range(rounds):
-        for name, call in ways.items():
-            start = time.process_time()
-            call()
-            least[name] = min(least.get(name, 1e9), 1e3 * (time.process_time() - start))
-    return least
-
-
-def row(name, found, columns, form="{:.2f}"):
-    """A row of a table, with an empty cell for a way that it does not have."""
-    print(f"| {name} | " + " | ".join(form.format(found[it]) if it in found else "" for it in columns) + " |", flush=True)
-
-
-def head(title, columns):
-    print(f"\n| {title} | " + " | ".join(columns) + " |\n|" + "---|" * (len(columns) + 1))
-
-
-def drawn(random, count, most):
-    """Increasing ids below a number, as many as asked for."""
-    return np.sort(random.choice(most, count, replace=False)).astype("u4")
-
 
 def saved_by_numpy(values):
     out = io.BytesIO()
@@ -111,114 +60,63 @@ def saved_by_numpy(values):
     return out
 
 
-def long_sets(roaring, random, rounds):
-    columns = ["IdSet", "numpy", "Roaring", "set", "zlib -1 of gaps"]
+def rows(roaring, a, b):
+    """Each row as a name, and a call for each way."""
+    one, other = fimulowen.IdSet(a), fimulowen.IdSet(b)
+    bitmaps, text, array, bitmap = (roaring.of(a), roaring.of(b)), one.tobytes(), saved_by_numpy(a), roaring.saved(a)
+    joined = lambda name: lambda: roaring.array(roaring.calls[name](*bitmaps), True)
+    read = lambda: roaring.array(roaring.calls["portable_deserialize_safe"](bitmap, len(bitmap)), True)
+    assert (fimulowen.intersect(one, other) == np.intersect1d(a, b)).all() and (joined("or")() == fimulowen.unite(one, other)).all()
+    yield "bits an id", (one.nbytes, a.nbytes, len(bitmap))
+    yield "array to bytes", (lambda: fimulowen.IdSet(a).data, lambda: saved_by_numpy(a), lambda: roaring.saved(a))
+    yield "bytes to array", (lambda: fimulowen.IdSet.open(text).unpack(), lambda: array.seek(0) or np.load(array), read)
+    yield "opened set to array", (one.unpack, a.copy, lambda: roaring.array(bitmaps[0]))
+    yield "AND to an array", (lambda: fimulowen.intersect(one, other), lambda: np.intersect1d(a, b, assume_unique=True), joined("and"))
+    yield "AND to a set", (lambda: one & other,)
+    yield "AND to a count", (lambda: fimulowen.intersect_len(one, other), None, lambda: roaring.calls["and_cardinality"](*bitmaps))
+    yield "OR to an array", (lambda: fimulowen.unite(one, other), lambda: np.union1d(a, b), joined("or"))
+    yield "NOT to an array", (lambda: fimulowen.subtract(one, other), lambda: np.setdiff1d(a, b, assume_unique=True), joined("andnot"))
+
+
+def timed(rounds):
+    """Prints the table. A cell has a number for each range of ids."""
+    roaring, random, found, columns = Roaring(), np.random.default_rng(1), {}, ["IdSet", "numpy", "CRoaring"]
     for most in RANGES:
-        a, b = drawn(random, COUNT, most), drawn(random, COUNT, most)
-        one, other = fimulowen.IdSet(a), fimulowen.IdSet(b)
-        assert (fimulowen.intersect(one, other) == np.intersect1d(a, b)).all() and (fimulowen.unite(one, other) == np.union1d(a, b)).all()
-        sets, bitmaps = (set(a.tolist()), set(b.tolist())), (roaring.of(a), roaring.of(b))
-        text, array, bitmap = one.tobytes(), saved_by_numpy(a), roaring.saved(a)
-        gaps = zlib.compress(np.diff(a, prepend=a[:1]).tobytes(), 1)
-        head(f"Two sets of {COUNT:,} below {most:,}", columns)
-        sizes = {"IdSet": one.nbytes, "numpy": a.nbytes, "Roaring": len(bitmap), "zlib -1 of gaps": len(gaps)}
-        row("bits an id", {name: 8 * it / COUNT for name, it in sizes.items()}, columns, "{:.1f}")
-        rows = {
-            "array to bytes, ms": {
-                "IdSet": lambda: fimulowen.IdSet(a).data,
-                "numpy": lambda: saved_by_numpy(a),
-                "Roaring": lambda: roaring.saved(a),
-                "zlib -1 of gaps": lambda: zlib.compress(np.diff(a, prepend=a[:1]).tobytes(), 1),
-            },
-            "bytes to array": {
-                "IdSet": lambda: fimulowen.IdSet.open(text).unpack(),
-                "numpy": lambda: array.seek(0) or np.load(array),
-                "Roaring": lambda: roaring.read(bitmap),
-                "zlib -1 of gaps": lambda: np.cumsum(np.frombuffer(zlib.decompress(gaps), "u4"), dtype="u4"),
-            },
-            "opened set to array": {"IdSet": one.unpack, "numpy": a.copy, "Roaring": lambda: roaring.array(bitmaps[0])},
-            "AND to an array": {
-                "IdSet": lambda: fimulowen.intersect(one, other),
-                "numpy": lambda: np.intersect1d(a, b, assume_unique=True),
-                "Roaring": lambda: roaring.joined("and", *bitmaps),
-                "set": lambda: sets[0] & sets[1],
-            },
-            "AND to a set": {"IdSet": lambda: one & other},
-            "AND to a count": {
-                "IdSet": lambda: fimulowen.intersect_len(one, other),
-                "Roaring": lambda: roaring.calls["and_cardinality"](*bitmaps),
-            },
-            "OR to an array": {
-                "IdSet": lambda: fimulowen.unite(one, other),
-                "numpy": lambda: np.union1d(a, b),
-                "Roaring": lambda: roaring.joined("or", *bitmaps),
-                "set": lambda: sets[0] | sets[1],
-            },
-            "NOT to an array": {
-                "IdSet": lambda: fimulowen.subtract(one, other),
-                "numpy": lambda: np.setdiff1d(a, b, assume_unique=True),
-                "Roaring": lambda: roaring.joined("andnot", *bitmaps),
-                "set": lambda: sets[0] - sets[1],
-            },
-        }
-        for name, ways in rows.items():
-            row(name, timed(rounds, ways), columns)
-
-
-def single_ids(random, rounds):
-    ids = drawn(random, COUNT, RANGES[1])
-    packed, at = fimulowen.IdSet(ids), random.integers(0, COUNT, 20_000)
-    places, targets, columns = at.tolist(), ids[at].tolist(), ["IdSet", "numpy"]
-    head(f"One of {COUNT:,} ids, ns", columns)
-    rows = {
-        "`s[i]`": {"IdSet": lambda: [packed[i] for i in places], "numpy": lambda: [ids[i] for i in places]},
-        "`id in s`": {"IdSet": lambda: [it in packed for it in targets]},
-        "`contains`": {"IdSet": lambda: packed.contains(targets), "numpy": lambda: np.isin(targets, ids)},
-        "`gather`, any order": {"IdSet": lambda: packed.gather(at), "numpy": lambda: ids.take(at)},
-        "`gather`, increasing": {"IdSet": lambda: packed.gather(np.sort(at)), "numpy": lambda: ids.take(np.sort(at))},
-        "`for`": {"IdSet": lambda: sum(1 for _ in packed), "numpy": lambda: sum(1 for _ in ids)},
-    }
-    for name, ways in rows.items():
-        each = 1e6 / (COUNT if name == "`for`" else len(places))
-        row(name, {way: each * it for way, it in timed(rounds, ways).items()}, columns, "{:.0f}")
-
-
-def short_sets(roaring, random, rounds):
-    sizes = random.zipf(1.6, SHORT).clip(1, 400)
-    bounds = np.concatenate([[0], np.cumsum(sizes)])
-    parts = [drawn(random, it, 1_000_000) for it in sizes]
-    ids = np.concatenate(parts)
-    text, ends = fimulowen.IdSet.pack_many(ids, bounds)
-    opened, columns = fimulowen.IdSet.open_many(text, ends), ["IdSet", "numpy", "Roaring"]
-    head(f"{SHORT:,} sets, {len(ids):,} ids in all", columns)
-    found = {"IdSet": len(text), "numpy": 4 * len(ids), "Roaring": sum(roaring.size(it) for it in parts)}
-    row("MB", {name: it / 1e6 for name, it in found.items()}, columns, "{:.1f}")
-    rows = {
-        "pack all, ms": {"IdSet": lambda: fimulowen.IdSet.pack_many(ids, bounds), "Roaring": lambda: [roaring.saved(it) for it in parts]},
-        "open all": {"IdSet": lambda: fimulowen.IdSet.open_many(text, ends)},
-        "unpack each": {"IdSet": lambda: [it.unpack() for it in opened], "numpy": lambda: [it.copy() for it in parts]},
-        "AND of each two": {
-            "IdSet": lambda: [fimulowen.intersect(*it) for it in zip(opened, opened[1:])],
-            "numpy": lambda: [np.intersect1d(*it, assume_unique=True) for it in zip(parts, parts[1:])],
-        },
-    }
-    for name, ways in rows.items():
-        row(name, timed(max(2, rounds // 3), ways), columns, "{:.0f}")
+        a, b = (np.sort(random.choice(most, COUNT, replace=False)).astype("u4") for _ in range(2))
+        for name, ways in rows(roaring, a, b):
+            if name == "bits an id":
+                its = {way: 8 * size / COUNT for way, size in zip(columns, ways)}
+            else:
+                calls = {way: call for way, call in zip(columns, ways) if call}
+                its = {way: 1e3 * it for way, it in measured.turns(calls, rounds).items()}
+            for way, it in its.items():
+                found.setdefault(name, {}).setdefault(way, []).append(f"{it:.1f}")
+    print(measured.head(os.environ["MEASURED"]))
+    cells = [(name, {way: "/".join(its) for way, its in ways.items()}) for name, ways in found.items()]
+    measured.show(f"two sets of {COUNT:,} ids below {'/'.join(f'{it:,}' for it in RANGES)}, ms", columns, cells)
 
 
 def main():
     parser = argparse.ArgumentParser()
     parser.add_argument("--rounds", type=int, default=7)
     rounds = parser.parse_args().rounds
-    with open("/proc/cpuinfo", encoding="ascii") as file:
-        model = re.search(r"model name\s*: (.*)", file.read())
-    print(f"{model[1] if model else 'unknown processor'}, load {os.getloadavg()[0]:.1f}, numpy {np.__version__}, {rounds} rounds")
-    roaring, random = Roaring(), np.random.default_rng(1)
-    long_sets(roaring, random, rounds)
-    single_ids(random, rounds)
-    short_sets(roaring, random, rounds)
-    print(f"load {os.getloadavg()[0]:.1f}")
+    if "MEASURED" in os.environ:
+        timed(rounds)
+        return
+    interpreter, lack = python.chosen(("numpy",))
+    if not interpreter:
+        sys.exit(f"there is no {' and no '.join(lack)}")
+    library = measured.library()
+    install.install(f"{FOLDER}/prefix", library)
+    why = python.made(interpreter, f"{FOLDER}/prefix", f"{FOLDER}/python")
+    if why:
+        sys.exit(why)
+    env = dict(os.environ, PYTHONPATH=f"{FOLDER}/python", MEASURED=library)
+    print(run(interpreter, __file__, "--rounds", str(rounds), env=env).stdout, end="")
 
 
+if "MEASURED" in os.environ:
+    import fimulowen
+    import numpy as np
 if __name__ == "__main__":
     main()

@@ -253,6 +253,9 @@ def status_without(part, *tools):
 
 
 def main():
+    if are_given():
+        print("archives.py: this bundle has the archives, and not the sources that they are built from", file=sys.stderr)
+        return 2
     given, lacking = words("--anew", "--fast", "--in-check"), missing(*(fast.TOOLS if "--fast" in sys.argv else TOOLS))
     if lacking and "--in-check" not in given:
         print(f"archives.py: there is no {' and no '.join(lacking)}, and nothing was built", file=sys.stderr)

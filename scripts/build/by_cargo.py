@@ -25,8 +25,9 @@ def called(*command, **more):
 
 
 def cargo(word, target, *words, flags=""):
-    """Calls cargo for the packages of the repository. What it builds is in the folder `target`."""
-    env = dict(os.environ, CARGO_TARGET_DIR=target, RUSTFLAGS=flags)
+    """Calls cargo for the packages of the repository. What it builds is in the folder `target`, and does not name the folder of the repository."""
+    encoded = "\x1f".join([*flags.split(), f"--remap-path-prefix={ROOT}=bitpacking"])
+    env = dict(os.environ, CARGO_TARGET_DIR=target, CARGO_ENCODED_RUSTFLAGS=encoded)
     return called("cargo", word, "--quiet", "--offline", "--locked", *words, folder=ROOT, env=env)
 
 

@@ -106,17 +106,17 @@ def exported():
     return sorted({*choosing.prototypes(), *re.findall(r"\((bitpacking_\w+)\)\(", source(SYMBOLS))})
 
 
-def link_shared(archive, path):
-    """Links an archive as a shared library, in which only the names of the header can be seen."""
-    with tempfile.TemporaryDirectory(prefix="install-") as folder:
-        names = f"{folder}/names"
-        with open(names, "w", encoding="ascii") as file:
-            file.write(f"{{ global: {' '.join(f'{name};' for name in exported())} local: *; }};\n")
-        words = ["-shared", f"-Wl,-soname,{os.path.basename(path)}", f"-Wl,--version-script={names}", "-Wl,-z,defs,-z,relro,-z,now"]
-        compiled = ["-std=c99", "-O2", "-fPIC", f"-I{ROOT}/include", f"{ROOT}/{SYMBOLS}"]
-        done = run(CC, *words, *compiled, "-Wl,--whole-archive", archive, "-Wl,--no-whole-archive", "-o", path)
+def linked(archive, folder):
+    """Links an archive as a shared library, in which only the names of the header can be seen, in a folder. Returns its path."""
+    names, path = f"{folder}/names", f"{folder}/{os.path.basename(shared_library())}"
+    with open(names, "w", encoding="ascii") as file:
+        file.write(f"{{ global: {' '.join(f'{name};' for name in exported())} local: *; }};\n")
+    words = ["-shared", f"-Wl,-soname,{os.path.basename(path)}", f"-Wl,--version-script={names}", "-Wl,-z,defs,-z,relro,-z,now"]
+    compiled = ["-std=c99", "-O2", "-fPIC", f"-I{ROOT}/include", f"{ROOT}/{SYMBOLS}"]
+    done = run(CC, *words, *compiled, "-Wl,--whole-archive", archive, "-Wl,--no-whole-archive", "-o", path)
     if done.returncode != 0:
         raise Failed(f"{CC} did not link a shared library: {done.stdout}")
+    return path
 
 
 def made_folders(prefix, path):
@@ -129,32 +129,38 @@ def made_folders(prefix, path):
 
 
 def install(prefix, archive, by_rustc=False):
-    """Writes all files below the folder that is named DESTDIR. If one cannot be written, those before it are taken away again."""
-    root = placed(prefix)
-    if os.path.exists(f"{root}/{NAMES}"):
-        remove(prefix)
-    library, header = shared_library(), header_of(archive)
+    """Writes all files below the folder that is named DESTDIR. What was installed there is taken away once the shared library is linked."""
+    with tempfile.TemporaryDirectory(prefix="install-") as folder:
+        shared = linked(archive, folder)
+        if os.path.exists(f"{placed(prefix)}/{NAMES}"):
+            remove(prefix)
+        return written(shared, prefix, archive, by_rustc)
+
+
+def written(shared, prefix, archive, by_rustc):
+    """Writes all files, one of them a shared library that is linked. If one cannot be written, those before it are taken away again."""
+    root, library, header = placed(prefix), shared_library(), header_of(archive)
     files = [HEADER, STATIC, library, LINK, ASKED, CMAKE, CMAKE_VERSION, NAMES]
     others = [it for it in files if os.path.lexists(f"{root}/{it}")]
     if others:
         raise Failed(f"{root}/{others[0]} is there, and was not written by this script")
-    written, texts = [], told(prefix, version(header), by_rustc)
+    made, texts = [], told(prefix, version(header), by_rustc)
     try:
         for path in files:
-            written += made_folders(root, path) + [path]
+            made += made_folders(root, path) + [path]
             if path == HEADER:
                 choosing.written(f"{root}/{path}", header)
             elif path == STATIC:
                 shutil.copyfile(archive, f"{root}/{path}")
             elif path == library:
-                link_shared(archive, f"{root}/{path}")
+                shutil.copy(shared, f"{root}/{path}")
             elif path == LINK:
                 os.symlink(os.path.basename(library), f"{root}/{path}")
             else:
                 with open(f"{root}/{path}", "w", encoding="utf-8") as file:
-                    file.write(texts.get(path) or "\n".join(written))
-    except (OSError, Failed):
-        taken_away(root, written)
+                    file.write(texts.get(path) or "\n".join(made))
+    except BaseException:
+        taken_away(root, made)
         raise
     return f"installed version {version(header)}{f', {BY_RUSTC},' * by_rustc} under {root}: {' '.join(files)}"
 

@@ -5,23 +5,26 @@
     fimulowen-VERSION-cp311-abi3-linux_x86_64.whl    the Python package
     SHA256SUMS                                       for `sha256sum -c SHA256SUMS`
 
-VERSION is that of CHANGELOG.md. The files are built in another folder, and are put in place of those of an earlier release only if all of them
-can be used: each bundle in an empty folder, where its library is installed and a program of it in C is run, one of it in Rust on x86_64; the
-wheel in a new environment, without an index; and the checksums, which have to find a changed byte.
+VERSION is that of CHANGELOG.md, and the files are those of the last commit. They are built in another folder, and are put in place of those of an
+earlier release only if all of them can be used: each bundle in an empty folder, where its library is installed and a program of it in C is run;
+on x86_64 also one in Rust, the first commands of the search engine, and the making of the PostgreSQL extension; the wheel in a new environment,
+without an index; and the checksums, which have to find a changed byte. What is compiled may not name a folder of this machine.
 
 The archives are those that scripts/build/archives.py wrote, which is called if they are not there. With --in-check nothing is put in place, and
-what a tool is missing for is left out. The last line is 'N passed, M failed'. The status is 0, 1 if something failed, or 2 if a tool is missing.
+what a tool is missing for is left out, also a commit. The last line is 'N passed, M failed'. The status is 0, 1 if something failed, or 2 if a
+tool is missing.
 """
 import glob
 import hashlib
 import os
+import re
 import shutil
 import sys
 import tarfile
 import tempfile
 
 sys.path.insert(1, f"{sys.path[0]}/..")
-from common import ROOT, leave_out, missing, report, run, version, words
+from common import ROOT, leave_out, missing, report, run, source, version, words
 import archives
 import arm
 import bundle
@@ -33,6 +36,9 @@ OUT = f"{ROOT}/out/release"
 SUMS = "SHA256SUMS"
 PROGRAM, PRINTS = "examples/id_set.c", c.PROGRAMS["examples/id_set.c"]
 IN_PYTHON = "import fimulowen; ids = fimulowen.IdSet([7, 9, 10, 300]); print(fimulowen.__version__, ids.nbytes, ids.seek(100))"
+SEARCH = "examples/search/README.md"
+# The folder of the documents that they find.
+FINDS = "docs/"
 # What compiles C programs for each processor, and what runs them.
 BY_PROCESSOR = {"x86_64": ("cc", []), "aarch64": (arm.CROSS, [arm.QEMU])}
 
@@ -40,6 +46,16 @@ BY_PROCESSOR = {"x86_64": ("cc", []), "aarch64": (arm.CROSS, [arm.QEMU])}
 def wrong(done, wanted=None):
     """What is wrong with a command that ended, or None."""
     return None if done.returncode == 0 and wanted in (None, done.stdout) else f"status {done.returncode}: {done.stdout[-2000:]}"
+
+
+def named_folders(top):
+    """The libraries below a folder that name the folder of the repository or of the toolchain."""
+    toolchain = [os.path.dirname(os.path.dirname(os.path.realpath(path))) for path in [shutil.which("rt")] if path]
+    for at, _, names in os.walk(top):
+        for path in (f"{at}/{name}" for name in names if re.search(r"\.(a|so)(\.\d+)?$", name)):
+            with open(path, "rb") as file:
+                text = file.read()
+            yield from (f"{os.path.relpath(path, top)} names {it}" for it in [ROOT, *toolchain] if it.encode() in text)
 
 
 def wheel(folder):
@@ -56,6 +72,7 @@ def wheel(folder):
         found = glob.glob(f"{folder}/*.whl")
         yield "a new environment", package.call(chosen, "-m", "venv", "--system-site-packages", package.room)
         yield "installing the wheel", package.call(f"{package.room}/bin/python", "-m", "pip", "install", "--no-deps", *found)
+        yield "the folders that the wheel names", ", ".join(named_folders(package.room)) or None
         done = run(f"{package.room}/bin/python", "-c", IN_PYTHON, folder=room)
         yield "a program over the wheel", wrong(done, f"{version()} 7 (3, 300)\n")
 
@@ -71,6 +88,7 @@ def unpacked(path, processor):
         yield f"the folder of {os.path.basename(path)}", None if os.listdir(room) == [
             os.path.basename(top)
         ] else f"it is {os.listdir(room)}"
+        yield f"the folders that the archives for {processor} name", ", ".join(named_folders(top)) or None
         if lacking:
             leave_out(f"programs over the bundle for {processor}", f"since there is no {' and no '.join(lacking)}")
             return
@@ -83,6 +101,8 @@ def unpacked(path, processor):
         yield f"{PROGRAM} over it for {processor}", wrong(done, PRINTS)
         if processor == "x86_64":
             yield from in_rust(room, top)
+            yield f"the first commands of {SEARCH} in it", in_search(top)
+            yield from in_postgres(top)
 
 
 def in_rust(room, top):
@@ -91,6 +111,26 @@ def in_rust(room, top):
         return
     done = rust.called("run", "--quiet", "--offline", "--example", rust.PROGRAM, folder=top, CARGO_TARGET_DIR=f"{room}/target")
     yield f"the example {rust.PROGRAM} in Rust over it", rust.printed(done, rust.EXAMPLES[rust.PROGRAM])
+
+
+def in_search(top):
+    """What is wrong with the first commands of the search engine in a bundle, which install the library into the folder `prefix`, or None."""
+    commands = re.search(r"(?:^    .*\n)+", source(SEARCH), re.M)[0]
+    done = run("sh", "-e", "-c", commands, folder=top)
+    return wrong(done) or (None if FINDS in done.stdout else f"it printed {done.stdout}")
+
+
+def in_postgres(top):
+    """The PostgreSQL extension, made in a bundle over the library in its folder `prefix`."""
+    lacking = missing("pg_config", "make", "nm")
+    if lacking or not os.path.isfile(run("pg_config", "--pgxs").stdout.strip()):
+        leave_out("the PostgreSQL extension over the bundle", f"since there is no {' and no '.join(lacking) or 'postgresql-server-dev-15'}")
+        return
+    done = run("make", "-C", "postgres", "BITPACKING=prefix", folder=top, env=dict(os.environ, PWD=top))
+    yield "making the PostgreSQL extension in it", wrong(done)
+    symbols = run("nm", "-D", f"{top}/postgres/idset.so").stdout
+    right = " T Pg_magic_func" in symbols and "bitpacking_" not in symbols
+    yield "the PostgreSQL extension that was made", None if right else symbols[-2000:]
 
 
 def sums(folder):
@@ -120,15 +160,34 @@ def checks(folder):
 
 
 def put_in_place(folder):
-    """Replaces the last release, and says what is there."""
-    shutil.rmtree(OUT, ignore_errors=True)
-    shutil.copytree(folder, OUT)
+    """Replaces the last release by a copy of a folder, once that is whole, and says what is there."""
+    new, old = f"{OUT}.new", f"{OUT}.old"
+    for path in new, old:
+        shutil.rmtree(path, ignore_errors=True)
+    shutil.copytree(folder, new)
+    os.chmod(new, 0o755)
+    if os.path.isdir(OUT):
+        os.rename(OUT, old)
+    os.rename(new, OUT)
+    shutil.rmtree(old, ignore_errors=True)
     print(f"released in {OUT}:", *sorted(os.listdir(OUT)))
+
+
+def released(folder, checks, in_check=False):
+    """Puts the files of a folder in place, if all checks of them pass. Returns the status."""
+    status = report(checks)
+    if status == 0 and not in_check:
+        put_in_place(folder)
+    return status
 
 
 def main():
     in_check = "--in-check" in words("--in-check")
-    lacking = missing("cargo", "sha256sum", *(it for compiler, runner in BY_PROCESSOR.values() for it in [compiler, *runner]))
+    if not in_check and bundle.changed():
+        print(f"release.py: this is not in the last commit: {bundle.changed()[0]}", file=sys.stderr)
+        return 1
+    tools = ["cargo", "sha256sum", "pg_config", "make"]
+    lacking = missing(*tools, *(it for compiler, runner in BY_PROCESSOR.values() for it in [compiler, *runner]))
     if not in_check and (lacking := lacking + python.chosen()[1]):
         print(f"release.py: there is no {' and no '.join(lacking)}, and nothing was built", file=sys.stderr)
         return 2
@@ -139,10 +198,7 @@ def main():
     if status is not None:
         return status
     with tempfile.TemporaryDirectory(prefix="release-") as folder:
-        status = report(checks(folder))
-        if status == 0 and not in_check:
-            put_in_place(folder)
-    return status
+        return released(folder, checks(folder), in_check)
 
 
 if __name__ == "__main__":

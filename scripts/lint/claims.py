@@ -1,29 +1,32 @@
 #!/usr/bin/env python3
 """Compares the claims of docs/PROOFS.md with the edits of scripts/mutate/edits/ that break them.
 
-- A claim is a row of a table whose first column is its number, `SECTION/NUMBER`; the rows of a section are numbered from 1 on, and have
-  three columns. A claim has an edit, or says after `no edit:` why it has none.
+- A row begins with the numbers of its claims, `SECTION/NUMBER` or `SECTION/FIRST-LAST`. A section has each number from 1 on once.
+- Each claim has an edit, and the last cell of its row names one of them; or this says after `none:` why there is none.
 - An edit names claims of the page, and says in one sentence what it breaks. No other edit of its crate has its name, and its folder is
   that of a module of the crate. A wrong change for a script has no module.
 
-Then the wrong changes of scripts/mutate/edits/claims/ are tried, as scripts/mutate/changes.py says. The last line is 'N passed, M failed'.
+`claims.py --write` names an edit in each row that names none of its own.
 """
 import re
 import sys
 
 sys.path.insert(1, f"{sys.path[0]}/..")
+from common import ROOT, words
 from texts import paths, results, text_of
 import changes
 
 PAGE = "docs/PROOFS.md"
+ROW = re.compile(r"^((?:`\w+/[\d-]+` ?)+)\| ([^|\n]*)\| ([^|\n]*)\| ([^|\n]*)$", re.M)
 
 
 def rows():
-    """The rows of the page that begin with a number: section, number, and the other columns."""
-    for line in text_of(PAGE).split("\n"):
-        found = re.match(r"\| `(\w+)/(\d+)` \|(.*)\|$", line)
-        if found:
-            yield found[1], int(found[2]), [it.strip() for it in re.split(r"(?<!\\)\|", found[3])]
+    """The rows of the page: the claims of each, and its other cells."""
+    for row in ROW.finditer(text_of(PAGE)):
+        spans = re.findall(r"`(\w+)/(\d+)(?:-(\d+))?`", row[1])
+        yield [
+            f"{section}/{number}" for section, first, last in spans for number in range(int(first), int(last or first) + 1)
+        ], *row.groups()[1:]
 
 
 def edits():
@@ -38,59 +41,64 @@ def edits_of_crates():
 
 
 def numbers():
-    last = {}
-    for section, number, columns in rows():
-        if number != last.get(section, 0) + 1:
-            yield f"{PAGE}: {section}/{number} comes after {section}/{last.get(section, 0)}"
-        if len(columns) != 2:
-            yield f"{PAGE}: {section}/{number} has {len(columns) + 1} columns, and not three"
-        last[section] = number
+    found = {}
+    for claim in (it for its, *_ in rows() for it in its):
+        found.setdefault(claim.split("/")[0], []).append(int(claim.split("/")[1]))
+    for section, its in found.items():
+        if sorted(its) != [*range(1, len(its) + 1)]:
+            yield f"{PAGE}: {section} has the numbers {sorted(its)}, and not each from 1 on once"
 
 
 def claims():
-    broken = {claim for edit in edits() for claim in edit.claims}
-    for section, number, columns in rows():
-        claim, says_none = f"{section}/{number}", re.search(r"\bno edit: \w", " ".join(columns))
-        if says_none and claim in broken:
-            yield f"{PAGE}: {claim} says that it has no edit, and has one"
-        if not says_none and claim not in broken:
-            yield f"{PAGE}: {claim} has no edit"
+    listed = list(edits())
+    for its, _, _, named in rows():
+        own = {claim: [edit.name for edit in listed if claim in edit.claims] for claim in its}
+        names = sorted({name for found in own.values() for name in found})
+        if re.match(r"none: \w", named):
+            yield from (f"{PAGE}: {claim} says that it has no edit, and has {found[0]}" for claim, found in own.items() if found)
+            continue
+        yield from (f"{PAGE}: {claim} has no edit" for claim, found in own.items() if not found)
+        if named.strip("`") not in names:
+            yield f"{PAGE}: {its[0]} names {named}, and its edits are {', '.join(names[:9])}"
 
 
 def headers():
-    known = {f"{section}/{number}" for section, number, _ in rows()}
+    known, found = {claim for its, *_ in rows() for claim in its}, {}
     for edit in edits():
-        if not edit.claims:
-            yield f"{edit.path}: it names no claim"
-        yield from (f"{edit.path}: {PAGE} has no claim {it}" for it in edit.claims if it not in known)
+        module = f"crates/{edit.crate}/src/{edit.module}.rt"
+        why = ["it names no claim"] if not edit.claims else [f"{PAGE} has no claim {it}" for it in edit.claims if it not in known]
         if not re.fullmatch(r"[A-Z`].*\.", edit.breaks):
-            yield f"{edit.path}: no sentence says what it breaks"
+            why.append("no sentence says what it breaks")
+        if edit.module if edit.crate in changes.OF_SCRIPTS else module not in paths(module):
+            why.append(f"there is no module {module}")
+        if found.setdefault((edit.crate, edit.name), edit.path) != edit.path:
+            why.append(f"it has the name of {found[edit.crate, edit.name]}")
+        yield from (f"{edit.path}: {it}" for it in why)
 
 
-def places():
-    found = {}
-    for edit in edits():
-        path = f"crates/{edit.crate}/src/{edit.module}.rt"
-        if edit.crate in changes.OF_SCRIPTS and edit.module:
-            yield f"{edit.path}: a wrong change for a script has no module"
-        if edit.crate not in changes.OF_SCRIPTS and path not in paths(path):
-            yield f"{edit.path}: there is no module {path}"
-        if (edit.crate, edit.name) in found:
-            yield f"{edit.path}: it has the name of {found[edit.crate, edit.name]}"
-        found[edit.crate, edit.name] = edit.path
+def write():
+    """Names an edit in each row that names none of its own: one of few claims, with a short name."""
+    listed, text = sorted(edits(), key=lambda it: (len(it.claims), len(it.name), it.name)), text_of(PAGE)
+    for its, *cells in rows():
+        own = [it.name for it in listed if not set(its).isdisjoint(it.claims)]
+        if own and not cells[-1].startswith("none") and cells[-1].strip("`") not in own:
+            text = text.replace("| ".join(cells), "| ".join([*cells[:-1], f"`{own[0]}`"]))
+    with open(f"{ROOT}/{PAGE}", "w", encoding="utf-8") as file:
+        file.write(text)
 
 
 def print_table(listed):
-    """Prints each claim that one of these edits breaks, with the edits."""
-    for section, number, columns in rows():
-        claim = f"{section}/{number}"
-        breaking = [it for it in listed if claim in it.claims]
+    """Prints each row of which one of these edits breaks a claim, with the edits."""
+    for its, claim, _, _ in rows():
+        breaking = [it for it in listed if not set(its).isdisjoint(it.claims)]
         if breaking:
-            print(f"{claim}: {columns[0]}")
+            print(f"{' '.join(its)}: {claim}")
         for edit in breaking:
             print(f"    {edit.path}: {edit.breaks}")
     return 0
 
 
 if __name__ == "__main__":
-    sys.exit(results([numbers, claims, headers, places], "claims"))
+    if "--write" in words("--write"):
+        sys.exit(write())
+    sys.exit(results([numbers, claims, headers], "claims"))

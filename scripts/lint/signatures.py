@@ -1,14 +1,7 @@
 #!/usr/bin/env python3
-"""Compares the types and the names of what the functions for C take: those of crates/bitpacking_c with those that include/bitpacking.h
-declares. A slice `x` is a pointer `x` and a length `x_len`. The fields of the structs of sets and columns are compared with those of `STRUCTS`
-too, and the limits of blocks with those of crates/bitpacking. The header is read as it is written: it has to name each function in a
-prototype, which no macro makes.
-
-The header, the archive, the library by cargo and the Python package have the version of CHANGELOG.md, and the Rust crate that and the version of
-the crate whose API it has.
-
-Then the wrong changes of scripts/mutate/edits/signatures/ are tried, as scripts/mutate/changes.py says. The last line is 'N passed, M
-failed', one for the header, one for its limits, one for the version and one for each of these.
+"""Compares what include/bitpacking.h declares with the sources: the types and names of each function of crates/bitpacking_c, in prototypes that
+no macro makes, with a pointer `x` and a length `x_len` for a slice `x`; the fields of views and builders; the limits of blocks. And header,
+archive, Rust crate, library by cargo and Python package with the version of CHANGELOG.md.
 """
 import re
 import sys
@@ -24,61 +17,56 @@ C_TYPES = {
     "usize": "size_t",
     "u64": "uint64_t",
     "isize": "ptrdiff_t",
-    "SetView": "bitpacking_set",
-    "SetBuilder": "bitpacking_set_builder",
-    "ColumnView": "bitpacking_column",
-    "ColumnBuilder": "bitpacking_column_builder",
+    "QueryStep": "uint32_t",
 }
+CRATE, RANKED = "crates/bitpacking_c/src", "crates/bitpack_ranked/src"
 STRUCTS = {
-    "SetView": "crates/bitpacking_c/src/set_view.rt",
-    "SetBuilder": "crates/bitpacking_c/src/set_builder.rt",
-    "ColumnView": "crates/bitpacking_c/src/column_view.rt",
-    "ColumnBuilder": "crates/bitpacking_c/src/column_builder.rt",
+    "SetView": f"{CRATE}/set_view.rt",
+    "SetBuilder": f"{CRATE}/set_builder.rt",
+    "ColumnView": f"{CRATE}/column_view.rt",
+    "ColumnBuilder": f"{CRATE}/column_builder.rt",
+    "TermView": f"{CRATE}/term_view.rt",
+    "Walk": f"{RANKED}/walk.rt",
+    "Scored": f"{RANKED}/found.rt",
 }
-HEADER = "include/bitpacking.h"
-LIMITS = "crates/bitpacking/src/limits.rt"
-# Where the version is, beside CHANGELOG.md: as text, or as the number a million times the major one, a thousand times the minor one, and the
-# patch.
-VERSIONS = {
-    (HEADER, r"^#define BITPACKING_VERSION (.*)$"): True,
-    ("crates/bitpacking_c/src/version.rt", r"result ≡ (\S+)"): True,
-    ("crates/bitpacking_c/src/version.rt", r"^\{\n    (.*)\n\}$"): True,
-    ("Cargo.toml", r'^version = "0\.9\.3\+(.*)"$'): False,
-    ("rust/c/Cargo.toml", r'^version = "(.*)"$'): False,
-    ("python/pyproject.toml", r'^version = "(.*)"$'): False,
-}
+C_TYPES.update({name: "bitpacking" + re.sub("[A-Z]", r"_\g<0>", name.removesuffix("View")).lower() for name in STRUCTS})
+HEADER, LIMITS = "include/bitpacking.h", "crates/bitpacking/src/limits.rt"
+# Where the version is, beside CHANGELOG.md: as a number, a million times the major one, a thousand times the minor one, and the patch; as text.
+NUMBERS = [
+    (HEADER, r"^#define BITPACKING_VERSION (.*)$"),
+    (f"{CRATE}/version.rt", r"result ≡ (\S+)"),
+    (f"{CRATE}/version.rt", r"^\{\n    (.*)\n\}$"),
+]
+VERSIONS = [
+    ("Cargo.toml", r'^version = "0\.9\.3\+(.*)"$'),
+    *((it, r'^version = "(.*)"$') for it in ("rust/c/Cargo.toml", "python/pyproject.toml")),
+]
 
 
 def in_c(written, name=""):
     """A parameter in C, as Rattle writes its type; of no name, what a function returns."""
     written = re.sub(r"<'\w+>|'\w+ ", "", written)
-    array = re.fullmatch(r"\[(\w+); (\w+)\]", written)
-    if array:
-        return [f"{C_TYPES[array[1]]} {name}[BITPACKING_{array[2]}]"]
-    items = re.fullmatch(r"&(mut )?\[(\w+)\]", written)
-    if items:
+    if array := re.fullmatch(r"\[(\w+); (\w+)\]", written):
+        return [f"{C_TYPES[array[1]]} {name}[{array[2] if array[2].isdigit() else f'BITPACKING_{array[2]}'}]"]
+    if items := re.fullmatch(r"&(mut )?\[(\w+)\]", written):
         return [f"{'' if items[1] else 'const '}{C_TYPES[items[2]]} *{name}", f"size_t {name}_len"]
-    pointer = re.fullmatch(r"(&|&mut |\*const |\*mut )(\w+)", written)
-    if pointer:
+    if pointer := re.fullmatch(r"(&|&mut |\*const |\*mut )(\w+)", written):
         return [f"{'' if 'mut' in pointer[1] else 'const '}{C_TYPES[pointer[2]]} *{name}"]
     return [f"{C_TYPES[written]} {name}".strip()]
 
 
 def parameters(text):
     """The parameters `name: type` in C."""
-    found = re.findall(r"(\w+): ([^,]+)", " ".join(text.split()))
-    return [parameter for name, written in found for parameter in in_c(written.strip(), name)]
-
-
-def fields(name, path):
-    """The fields of a struct as they are written."""
-    return re.search(rf"\bstruct {name}(?:<'a>)? \{{(.*?)(?:\bghost\b|\}})", code(path), re.S)[1].removesuffix("pub ")
+    return [it for name, written in re.findall(r"(\w+): ([^,]+)", " ".join(text.split())) for it in in_c(written.strip(), name)]
 
 
 def exported():
-    """Of each function of the crate what it returns and its parameters, in C; and the fields of a view."""
-    found = {C_TYPES[name]: parameters(fields(name, path)) for name, path in STRUCTS.items()}
-    for path in paths("crates/bitpacking_c/src/*.rt"):
+    """Of each function of the crate what it returns and its parameters, in C; and the fields of a struct."""
+    found = {}
+    for name, file in STRUCTS.items():
+        fields = re.search(rf"\bstruct {name}(?:<'a>)? \{{(.*?)(?:\bghost\b|\}})", code(file), re.S)[1]
+        found[C_TYPES[name]] = parameters(fields.removesuffix("pub "))
+    for path in paths(f"{CRATE}/*.rt"):
         functions = re.findall(r'extern "C" fn (\w+)(?:<[^>]*>)?\(([^)]*)\)(?: -> (\w+))?', text_of(path))
         found.update({name: (in_c(returned) if returned else ["void"]) + parameters(given) for name, given, returned in functions})
     return found
@@ -86,8 +74,7 @@ def exported():
 
 def declared():
     """The same of the header, without its comments and macros."""
-    text = re.sub(r"/\*.*?\*/", "", text_of(HEADER), flags=re.S)
-    text = re.sub(r"^#(.*\\\n)*.*", "", text, flags=re.M)
+    text = re.sub(r"(?ms)/\*.*?\*/|^#(?-s:.*\\\n)*(?-s:.*)", "", text_of(HEADER))
     found = {name: fields.split(";")[:-1] for fields, name in re.findall(r"typedef struct \w+ \{([^}]*)\} (bitpacking_\w+);", text)}
     for returned, name, given in re.findall(r"^(\w+) (bitpacking_\w+)\(([^)]*)\);", text, re.M):
         found[name] = [returned] + (given.split(",") if given != "void" else [])
@@ -95,29 +82,23 @@ def declared():
 
 
 def header():
-    """Where the functions of the header are not those of the crate."""
-    others, functions = declared(), exported()
+    limits = {f"#define {name}": it for name, it in re.findall(r"^#define BITPACKING_(LANE_LEN|MAX_\w+) (\d+)\b", text_of(HEADER), re.M)}
+    right = {f"#define {name}": it for name, it in re.findall(r"^pub const (\w+): \w+ = (\d+);", text_of(LIMITS), re.M)}
+    others, functions = declared() | limits, exported() | right
     for name in sorted(others.keys() | functions.keys()):
         if others.get(name) != functions.get(name):
             yield f"{HEADER}: {name} has {others.get(name)}, and the crate {functions.get(name)}"
 
 
-def limits():
-    right = dict(re.findall(r"^pub const (\w+): \w+ = (\d+);", text_of(LIMITS), re.M))
-    found = dict(re.findall(r"^#define BITPACKING_(LANE_LEN|MAX_\w+) (\d+)\b", text_of(HEADER), re.M))
-    for name in sorted(right.keys() | found.keys()):
-        if found.get(name) != right.get(name):
-            yield f"{HEADER}: {name} is {found.get(name)}, and in {LIMITS} {right.get(name)}"
-
-
 def versions():
     text = version(text_of("CHANGELOG.md"))
     major, minor, patch = map(int, text.split("."))
-    for (path, pattern), as_number in VERSIONS.items():
-        wanted, found = str(1000000 * major + 1000 * minor + patch) if as_number else text, re.findall(pattern, text_of(path), re.M)
-        if found != [wanted]:
-            yield f"{path}: the version is {' and '.join(found)}, and by CHANGELOG.md {wanted}"
+    for wanted, files in [(str(1000000 * major + 1000 * minor + patch), NUMBERS), (text, VERSIONS)]:
+        for path, pattern in files:
+            found = re.findall(pattern, text_of(path), re.M)
+            if found != [wanted]:
+                yield f"{path}: the version is {' and '.join(found)}, and by CHANGELOG.md {wanted}"
 
 
 if __name__ == "__main__":
-    sys.exit(results([header, limits, versions], "signatures"))
+    sys.exit(results([header, versions], "signatures"))

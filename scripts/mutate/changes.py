@@ -15,8 +15,8 @@ No other line may stand there. Then changes, each of whole lines:
     new lines                 none: the old ones are taken out
     >>>>
 
-The folders of OF_SCRIPTS have wrong changes of the same form for the scripts that read the sources. They have no module and no
-`unproved:`; each `refused: TEXT` is in a fault that the script finds then, and no fault is without one.
+The folders of OF_SCRIPTS have wrong changes of the same form for the scripts of scripts/lint/. They have no module and no `unproved:`; each
+`refused: TEXT` is in a fault that the script finds then, and no fault is without one.
 """
 
 import dataclasses
@@ -28,8 +28,8 @@ import sys
 from common import ROOT, source
 
 FOLDER = "scripts/mutate/edits"
-# The folders of wrong changes that the scripts of these names try, which read the sources.
-OF_SCRIPTS = {"claims", "clauses", "doors", "examples", "maps", "page_numbers", "signatures", "sources"}
+OF_SCRIPTS = {"claims", "clauses", "doors", "english", "examples", "pages", "signatures", "sources"}
+CHANGE = re.compile(r"^<<<< (\S+)\n((?:.*\n)*?)(?:====\n((?:.*\n)*?))?(?:>>>>$|\Z)", re.M)
 
 
 @dataclasses.dataclass
@@ -54,43 +54,22 @@ class Edit:
         return "/".join(self.path.split("/")[1:-1])
 
 
-def add_header(edit, line):
-    """Reads a line before the first change."""
-    if line.startswith("unproved: "):
-        function, _, goals = line[10:].partition(": ")
-        edit.unproved[function] = goals.split()
-    elif line.startswith("refused: "):
-        edit.refused.append(line[9:])
-    elif line.startswith("claim: ") and not edit.claims:
-        edit.claims = line[7:].split()
-    elif line.startswith("breaks: ") and not edit.breaks:
-        edit.breaks = line[8:]
-    elif line:
-        sys.exit(f"{edit.path}: no header line of an edit: {line}")
-
-
-def read_change(path, lines):
-    """The change of a file, from the line after `<<<<` on."""
-    old, new = [], []
-    into = old
-    for line in lines:
-        if line == ">>>>":
-            break
-        if line == "====":
-            into = new
-        else:
-            into.append(line)
-    return path, old, new
-
-
 def read_edit(path, text):
     """The edit of the file scripts/mutate/edits/PATH.edit with this text."""
-    edit, lines = Edit(path), iter(text.split("\n"))
-    for line in lines:
-        if line.startswith("<<<< "):
-            edit.changes.append(read_change(line[5:].strip(), lines))
+    edit = Edit(path, changes=[(it, old.splitlines(), new.splitlines()) for it, old, new in CHANGE.findall(text)])
+    for line in filter(None, CHANGE.sub("", text).split("\n")):
+        word, _, rest = line.partition(": ")
+        if word == "unproved":
+            function, _, goals = rest.partition(": ")
+            edit.unproved[function] = goals.split()
+        elif word == "refused":
+            edit.refused.append(rest)
+        elif word == "claim" and not edit.claims:
+            edit.claims = rest.split()
+        elif word == "breaks" and not edit.breaks:
+            edit.breaks = rest
         else:
-            add_header(edit, line)
+            sys.exit(f"{path}: no header line of an edit: {line}")
     if not edit.changes or not (edit.unproved or edit.refused):
         sys.exit(f"{path}: an edit without a change, or that nothing refuses")
     return edit
@@ -98,9 +77,8 @@ def read_edit(path, text):
 
 def edits_in(folder):
     """The edits of a folder of scripts/mutate/edits/ and those below it, by name."""
-    paths = glob.glob(f"{ROOT}/{FOLDER}/{folder}/**/*.edit", recursive=True)
-    found = [os.path.relpath(it, f"{ROOT}/{FOLDER}")[:-5] for it in paths]
-    return sorted((read_edit(it, source(f"{FOLDER}/{it}.edit")) for it in found), key=lambda it: it.name)
+    found = glob.glob(f"{folder}/**/*.edit", root_dir=f"{ROOT}/{FOLDER}", recursive=True)
+    return sorted((read_edit(it[:-5], source(f"{FOLDER}/{it}")) for it in found), key=lambda it: it.name)
 
 
 def pattern_of(old):

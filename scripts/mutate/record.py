@@ -1,9 +1,6 @@
-"""The record of the last whole run of the edits, scripts/mutate/tried.txt: for each crate whose edits were all tried, and all refused as they
-must be, a sum of its sources, of those of the crates below it, and of its edits. scripts/mutate/unproved.py writes it. Another toolchain leaves
-it as it is: `unproved.py --all` tries all edits with that.
-
-Of a crate whose sum is still that one, one edit in ten is tried, chosen by the hash of the commit; of the others all are.
-"""
+"""The record of the last whole run of the edits, scripts/mutate/tried.txt: for each crate whose edits were all refused as they must be, a sum of its
+sources, of those of the crates below it, and of its edits. scripts/mutate/unproved.py writes it; with another toolchain `--all` tries all again.
+Of a crate whose sum is still that one, one edit in ten is tried, chosen by the hash of the commit; of the others all are."""
 
 import glob
 import hashlib
@@ -46,12 +43,10 @@ def commit():
     return done.stdout.strip() if done.returncode == 0 else ""
 
 
-def some_of(edits, by):
-    """One edit in ten, and at least one: other ones for another hash."""
-    ordered = sorted(edits, key=lambda it: hashlib.sha256(f"{by} {it.path}".encode()).digest())
-    return ordered[: -(-len(edits) // ONE_IN)]
-
-
 def chosen(by_crate, sums, record, by):
-    """By crate, the edits to try: some, if the crate has the sum of the record, or all. Without a commit to choose by, all."""
-    return {crate: some_of(edits, by) if by and sums[crate] == record.get(crate) else edits for crate, edits in by_crate.items()}
+    """By crate, the edits to try: some, at least one, if the crate has the sum of the record, or all. Without a commit to choose by, all."""
+
+    def some_of(edits):
+        return sorted(edits, key=lambda it: hashlib.sha256(f"{by} {it.path}".encode()).digest())[: -(-len(edits) // ONE_IN)]
+
+    return {crate: some_of(edits) if by and sums[crate] == record.get(crate) else edits for crate, edits in by_crate.items()}

@@ -1,21 +1,15 @@
 #!/usr/bin/env python3
 """Tries the wrong bodies and other edits of scripts/mutate/edits/: each must leave the functions that it names unproved, at the goals that
-it names, or the crate not compiling. scripts/mutate/changes.py has their form.
+it names, or the crate not compiling. scripts/mutate/changes.py has their form, scripts/mutate/record.py says which are tried.
 
-A check takes up to 34 edits that change different functions, and names each function that it refuses. No function may be refused but
-those that an edit names. If a function waits for the proof of a callee that another edit changed, its edit is tried again in a
-later check, without that one. If a check ends without a verdict, such as for want of memory, its edits are tried again, fewer at once.
-What a caller does with less from the crate below is tried in the caller's crate: a new function calls the one below, and has its contract
-without a clause. An edit of a crate below must not compile.
+A check takes up to 34 edits that change different functions. No function may be refused but those that an edit names. If a function waits for
+the proof of a callee that another edit changed, its edit is tried again later. If a check ends without a verdict, such as for want of memory, its
+edits are tried again, fewer at once. What a caller does with less from the crate below is tried in the caller's crate: a new function calls
+the one below, and has its contract without a clause. If all edits of a crate are tried, the crate is proved first, and each check begins with
+what that kept. The libraries below are those of out/proved/, or are proved first.
 
-If all edits of a crate are tried, the crate is proved first, and each check begins with what that kept; if some are, a check looks at the
-functions that they name, and at those that these call. Which are tried says scripts/mutate/record.py, whose record a run without a fault
-brings up to date. The libraries are those of out/proved/, and are proved if they are not there; the edits of a crate are tried as soon as
-those below it are. The edits are made in copies of the crates that git tracks, one for each processor, up to four, and fewer if memory lacks.
-
-`unproved.py --all` tries all edits. `unproved.py WORD ..` tries the edits alone that are named, or that are in a folder of
-scripts/mutate/edits/, such as a crate. `unproved.py --list` tries none, and prints each claim of docs/PROOFS.md with its edits, and what
-these break; also with words. The last line is 'N passed, M failed'.
+`unproved.py --all` tries all edits. `unproved.py WORD ..` tries the edits alone that are named, that break a claim such as sets/1, or that are in a
+folder of scripts/mutate/edits/, such as a crate; with `--list` it prints their claims, and what they break. The last line is 'N passed, M failed'.
 """
 import collections
 import concurrent.futures
@@ -24,7 +18,6 @@ import functools
 import os
 import re
 import shutil
-import subprocess
 import sys
 import tempfile
 import threading
@@ -42,20 +35,17 @@ COPIES = min(4, len(os.sched_getaffinity(0)))
 EACH, BEGINS = 3 << 30, 10
 # How many edits a check takes at most: the more it takes, the more memory it needs, and the longer the others wait for it at the end.
 MOST = 34
-# The name of an impl, of which `--only` says nothing.
-IMPL = r"(?:^|::)[A-Z]\w*$"
-# Where a copy has what the check of a whole crate begins with, in the folder of the crate.
+# In the folder of a crate in a copy, what the check of a whole crate begins with.
 KEPT = "out/kept"
 
 
-def apply(room, edit, kept):
-    """Makes the changes, and keeps the files as they were in `kept`, None for a new one. Returns why not, if one does not fit."""
+def apply(room, edit):
+    """Makes the changes of an edit in a copy. Returns why not, if one does not fit."""
     for path, old, new in edit.changes:
         full, before = f"{room}/{path}", None
         if os.path.exists(full):
             with open(full, encoding="utf-8") as file:
                 before = file.read()
-        kept.setdefault(full, before)
         after, why = changes.changed(before, path, old, new)
         if why:
             return why
@@ -65,40 +55,31 @@ def apply(room, edit, kept):
     return None
 
 
-def restore(kept):
-    """Puts the files back as they were."""
-    for path, text in kept.items():
-        if text is None and os.path.exists(path):
-            os.remove(path)
-        elif text is not None:
-            with open(path, "w", encoding="utf-8") as file:
-                file.write(text)
-
-
-def command_of(crate, edits, whole):
-    """The command that checks a crate with these edits. If it must not compile, no proof is looked at, and `rt` also reads the sources of the
-    crates below. The proofs that `kept_in` has are taken if the check is to be of the whole crate."""
-    if changes_below(crate, edits):
-        return ["rt", "check", "--only", ""]
-    functions = sorted({function for edit in edits for function in edit.unproved}) or [""]
-    only = [word for it in functions for word in ("--only", it)]
-    if whole and edits[0].unproved:
-        only = ["--incremental", KEPT]
-    elif any(re.search(IMPL, it) for it in functions):
-        only = []
-    return [f"{proving.kit()}/bin/rattle", "check", *proving.words_of(crate), *proving.proof(*only, jobs=1)]
+def changes_below(crate, edits):
+    """Whether the edits change a crate below theirs."""
+    return any(not path.startswith(f"crates/{crate}/") for edit in edits for path, _, _ in edit.changes)
 
 
 def check(room, crate, edits, whole):
-    """Checks a crate in a copy. Returns the status, and what is said."""
-    if whole:
-        mend(proving.kept(crate), f"{room}/crates/{crate}/{KEPT}")
-    ran = run(*command_of(crate, edits, whole), folder=f"{room}/crates/{crate}")
+    """Checks a crate with these edits in a copy. Returns the status, and what is said. If it must not compile, no proof is looked at, and `rt`
+    also reads the sources of the crates below."""
+    functions = sorted({function for edit in edits for function in edit.unproved}) or [""]
+    only = [word for it in functions for word in ("--only", it)]
+    if whole and edits[0].unproved:
+        shutil.rmtree(f"{room}/crates/{crate}/{KEPT}", ignore_errors=True)
+        shutil.copytree(proving.kept(crate), f"{room}/crates/{crate}/{KEPT}", copy_function=proving.linked)
+        only = ["--incremental", KEPT]
+    elif any(re.search(r"(?:^|::)[A-Z]\w*$", it) for it in functions):
+        # An impl, of which `--only` says nothing.
+        only = []
+    command = [f"{proving.kit()}/bin/rattle", "check", *proving.words_of(crate), *proving.proof(*only, jobs=1)]
+    ran = run(*(["rt", "check", "--only", ""] if changes_below(crate, edits) else command), folder=f"{room}/crates/{crate}")
     return ran.returncode, ran.stdout
 
 
 def unproved_in(crate, said):
-    """By function or impl of the crate that the check did not prove, what the check says of it."""
+    """By function or impl of the crate that the check did not prove, what the check says of it. Notes are above the line of their function, and an
+    error may stand in a file of the same path in a crate below."""
     found, before, at, named = {}, [], None, set()
     for line in said.split("\n"):
         error = re.match(r"\./proofs/(\S+)/\w+\.antt:\d+:\d+: ", line)
@@ -106,7 +87,6 @@ def unproved_in(crate, said):
         if error:
             at = error[1].replace("/", "::")
         elif re.match(r"note: src/", line):
-            # Notes are above the line of their function.
             at = None
             before.append(line)
         elif verdict:
@@ -117,7 +97,6 @@ def unproved_in(crate, said):
             before = []
         if at:
             found.setdefault(at, []).append(line)
-    # An error may stand in a file of the same path in a crate below.
     return {function: "\n".join(lines) for function, lines in found.items() if function in named}
 
 
@@ -141,13 +120,10 @@ def why_not(edit, crate, status, said):
         if refused != set(goals):
             return f"{function} is refused at {' '.join(sorted(refused)) or 'no goal of its own'}"
     told = "\n".join(found[it] for it in edit.unproved) or said
-    for text in edit.refused:
-        if text not in told:
-            return f"the check does not say of it: {text}"
-    return None
+    return next((f"the check does not say of it: {text}" for text in edit.refused if text not in told), None)
 
 
-@functools.lru_cache(maxsize=None)
+@functools.cache
 def text_of(path):
     """The text of a file of the repository, or None if there is none."""
     return source(path) if os.path.isfile(f"{ROOT}/{path}") else None
@@ -163,43 +139,33 @@ def can_follow(edit, other):
     return True
 
 
-def functions_by_less(edit):
-    """The functions of which the edit changes a clause."""
-    found = set()
-    for path, old, _ in edit.changes:
-        clause = next((line for line in old if re.match(r"\s*(requires|ensures)\b", line)), None)
-        if path.endswith(".rt") and clause and text_of(path):
-            # The edit's own lines may begin above the function.
-            before = text_of(path).split("\n".join(old[: old.index(clause) + 1]))[0]
-            found |= set(re.findall(r"\bfn (\w+)", before + "\n".join(old[: old.index(clause)]))[-1:])
-    return found
+def changes_a_clause(edit):
+    lines = [line for path, old, _ in edit.changes if path.endswith(".rt") for line in old]
+    return any(re.match(r"\s*(requires|ensures)\b", line) for line in lines)
 
 
 def are_apart(edit, other):
-    """Whether one check can take both, the other after the edit: they leave different functions unproved, change different lines, and no
-    file of proofs twice, and neither changes a clause of a function that the other names, nor a lemma, on which its proof may rest. Two
-    edits of which the crate does not compile have each its own text."""
-    if any("/proofs/lemmas/" in path for path, _, _ in [*edit.changes, *other.changes]):
-        return False
-    shared = {path for path, _, _ in edit.changes} & {path for path, _, _ in other.changes}
+    """Whether one check can take both, the other after the edit: they leave different functions unproved, change different lines, and neither a
+    clause of a file, nor a file of proofs, that the other changes too, nor a lemma. Two edits of which the crate does not compile have each its
+    own text."""
+    paths, others = ({path for path, _, _ in it.changes} for it in (edit, other))
     if not edit.unproved or not other.unproved:
         return not edit.unproved and not other.unproved and set(edit.refused).isdisjoint(other.refused)
-    if not edit.unproved.keys().isdisjoint(other.unproved) or any(path.endswith(".antt") for path in shared):
+    if not edit.unproved.keys().isdisjoint(other.unproved) or any("/proofs/lemmas/" in path for path in paths | others):
         return False
-    for one, two in [(edit, other), (other, edit)] if shared else []:
-        if not functions_by_less(one).isdisjoint(name.split("::")[-1] for name in two.unproved):
-            return False
-    return not shared or can_follow(edit, other)
+    if paths.isdisjoint(others):
+        return True
+    is_of_proofs = any(path.endswith(".antt") for path in paths & others)
+    return not is_of_proofs and not changes_a_clause(edit) and not changes_a_clause(other) and can_follow(edit, other)
 
 
 def tried(room, crate, edits, whole):
-    """Tries the edits in one check. Returns by name why each is not refused as it must be, or None; the names of those that may be later,
-    since they wait for a callee that another one changed, or for a compiler that stopped at another one; and what is wrong with the
-    check as a whole. If it ended without a verdict on any function, these are None, and all may be later."""
-    kept = {}
-    whys = {edit.name: apply(room, edit, kept) for edit in edits}
+    """Tries the edits in one check. Returns by name why each is not refused as it must be, or None; the names of those that may be later, since
+    they wait for another; and what is wrong with the check as a whole: None if it ended without a verdict, and then all may be later."""
+    whys = {edit.name: apply(room, edit) for edit in edits}
     status, said = check(room, crate, edits, whole)
-    restore(kept)
+    run("git", "checkout", "--quiet", "--", ".", folder=room)
+    run("git", "clean", "--quiet", "-d", "--force", "--exclude=out", folder=room)
     if status != 0 and edits[0].unproved and not re.search(rf"^fn {crate}::", said, re.M):
         why = f"the check ended with status {status} and no verdict: {said.strip()[-200:]}"
         return {edit.name: why for edit in edits}, {edit.name for edit in edits}, None
@@ -209,44 +175,21 @@ def tried(room, crate, edits, whole):
     waiting = {edit.name for edit in later if not edit.unproved or not calls.isdisjoint(edit.unproved)}
     named = {function for edit in edits for function in edit.unproved}
     others = {it: sorted(goals_in(text)) for it, text in unproved_in(crate, said).items() if it not in named}
-    more = [f"{it} is refused too, at {' '.join(goals)}" for it, goals in others.items() if goals]
-    return whys, waiting, more
+    return whys, waiting, [f"{it} is refused too, at {' '.join(goals)}" for it, goals in others.items() if goals]
 
 
 def copied(room, *paths):
     """Makes a copy of the tracked files, or of those at these paths, which git tracks there too."""
-    listed = subprocess.run(["git", "ls-files", "-z", *paths], cwd=ROOT, check=True, stdout=subprocess.PIPE).stdout
-    for name in listed.decode().split("\0"):
+    for name in run("git", "ls-files", "-z", *paths).stdout.split("\0"):
         if name and os.path.isfile(f"{ROOT}/{name}"):
             os.makedirs(os.path.dirname(f"{room}/{name}"), exist_ok=True)
             shutil.copy2(f"{ROOT}/{name}", f"{room}/{name}")
-    subprocess.run(["git", "init", "-q", room], check=True)
-    subprocess.run(["git", "add", "--all"], cwd=room, check=True)
-
-
-def files_in(top):
-    """The files below a folder, and of each how long it is and when it was written."""
-    found = [os.path.relpath(f"{folder}/{name}", top) for folder, _, names in os.walk(top) for name in names]
-    return {path: (os.lstat(f"{top}/{path}").st_size, os.lstat(f"{top}/{path}").st_mtime_ns) for path in found}
-
-
-def mend(sound, folder):
-    """Makes a copy of a folder what it was: the files that were written since are copied again, and those that are new are taken out."""
-    wanted, found = files_in(sound), files_in(folder)
-    for path in (path for path, state in found.items() if wanted.get(path) != state):
-        os.remove(f"{folder}/{path}")
-    for path in (path for path, state in wanted.items() if found.get(path) != state):
-        os.makedirs(os.path.dirname(f"{folder}/{path}"), exist_ok=True)
-        proving.linked(f"{sound}/{path}", f"{folder}/{path}")
-
-
-def changes_below(crate, edits):
-    """Whether the edits change a crate below theirs."""
-    return any(not path.startswith(f"crates/{crate}/") for edit in edits for path, _, _ in edit.changes)
+    run("git", "init", "--quiet", room)
+    run("git", "add", "--all", folder=room)
 
 
 def checks_of(crate, edits, most):
-    """The checks that take these edits of a crate, each up to so many. The edits that are apart from the fewest others come first, so that
+    """The checks that take these edits of a crate, each up to a number. The edits that are apart from the fewest others come first, so that
     there are few checks. An edit goes where there are fewest, and one of a crate below with others of crates below."""
     checks = []
     others = {edit.name: sum(not are_apart(it, edit) for it in edits) for edit in edits}
@@ -264,7 +207,7 @@ class Rooms:
     """Copies of the repository in which edits are tried, all of some crates and some of the others."""
 
     def __init__(self, top, whole):
-        self.top, self.whole, self.free, self.faults = top, whole, [], {}
+        self.top, self.whole, self.free, self.faults = top, whole, [], collections.defaultdict(list)
         self.door, self.running, self.last = threading.Lock(), 0, 0
         # How many edits a check takes at most, by crate.
         self.most = collections.defaultdict(lambda: MOST)
@@ -277,9 +220,10 @@ class Rooms:
                 proving.library(below, lambda *_: None)
             if crate in self.whole:
                 proving.check(crate, lambda *_: None)
+            return edits
         except proving.Failed as why:
             self.faults[crate] = [f"{crate}: FAILED: the crate, or one below it, is not proved: {why}\n{why.said}"]
-        return [] if crate in self.faults else edits
+            return []
 
     @contextlib.contextmanager
     def memory(self):
@@ -310,51 +254,46 @@ class Rooms:
         told = [f"{crate}/{it}: {f'FAILED: {why}' if why else 'refused, as it must be'}" for it, why in whys.items() if it not in waiting]
         told += [f"{crate}: FAILED: {fault}, and no edit of this check names it" for fault in more]
         print("\n".join([*told, f"{crate}: {len(edits) - len(waiting)} in one check of {time.time() - start:.0f} s"]), flush=True)
-        self.faults.setdefault(crate, []).extend(it for it in told if ": FAILED: " in it)
+        self.faults[crate] += [it for it in told if ": FAILED: " in it]
         return [it for it in edits if it.name in waiting]
 
     def try_all(self, asked):
-        """Tries the edits of each crate once what they need is proved, each check as soon as a copy is free."""
+        """Tries the edits of each crate once what they need is proved, each check as soon as a copy is free. Those that wait are tried when no
+        check of their crate is left that could find more of them."""
         left = collections.defaultdict(list)
         with concurrent.futures.ThreadPoolExecutor(1) as prover, concurrent.futures.ThreadPoolExecutor(COPIES) as pool:
-            running = {prover.submit(self.prepared, crate, edits): crate for crate, edits in asked.items()}
+            # First those that wait for the fewest crates, if these are proved at this time.
+            order = sorted(asked, key=lambda it: len(proving.libraries(it)))
+            running = {prover.submit(self.prepared, crate, asked[crate]): crate for crate in order}
             while running:
                 for future in concurrent.futures.wait(running, return_when=concurrent.futures.FIRST_COMPLETED).done:
                     crate = running.pop(future)
                     left[crate] += future.result()
-                    # Those that wait are tried when no check of their crate is left that could find more of them.
                     if crate not in running.values():
                         for edits in checks_of(crate, left.pop(crate), self.most[crate]):
                             running[pool.submit(self.try_in_one, crate, edits)] = crate
-
-
-def try_edits(by_crate, whole):
-    """Tries edits, those of the crates that are `whole` over proofs of the whole crate. Returns by crate what failed."""
-    with tempfile.TemporaryDirectory(prefix="unproved-") as top:
-        rooms = Rooms(top, whole)
-        # First those that wait for the fewest crates, if these are proved at this time.
-        order = sorted(proving.crates(), key=lambda it: len(proving.libraries(it)))
-        rooms.try_all({crate: by_crate[crate] for crate in order if crate in by_crate})
-    return rooms.faults
 
 
 def main():
     asked = words("--list", "--all")
     wanted = [it for it in asked if it not in ("--list", "--all")]
     every = claims.edits_of_crates()
-    edits = [it for it in every if not wanted or any(it.name == word or it.path.startswith(f"{word}/") for word in wanted)]
+    edits = [it for it in every if not wanted or any(word in [it.name, *it.claims] or it.path.startswith(f"{word}/") for word in wanted)]
     if "--list" in asked:
         return claims.print_table(edits)
     by_crate = {crate: [it for it in edits if it.crate == crate] for crate in sorted({it.crate for it in edits})}
     sums = {crate: record.sum_of(crate) for crate in by_crate}
     if not wanted and "--all" not in asked:
         by_crate = record.chosen(by_crate, sums, record.known(), record.commit())
-    whole = [crate for crate, its in by_crate.items() if len(its) == sum(it.crate == crate for it in every)]
+    count = collections.Counter(it.crate for it in every)
+    whole = [crate for crate, its in by_crate.items() if len(its) == count[crate]]
     for crate, its in by_crate.items():
-        print(f"{crate}: {len(its)} of {sum(it.crate == crate for it in every)} edits are tried", flush=True)
-    found = try_edits(by_crate, whole)
-    record.add({crate: sums[crate] for crate in whole if not found.get(crate) and sums[crate] == record.sum_of(crate)})
-    failed = [it for its in found.values() for it in its]
+        print(f"{crate}: {len(its)} of {count[crate]} edits are tried", flush=True)
+    with tempfile.TemporaryDirectory(prefix="unproved-") as top:
+        rooms = Rooms(top, whole)
+        rooms.try_all(by_crate)
+    record.add({crate: sums[crate] for crate in whole if not rooms.faults[crate] and sums[crate] == record.sum_of(crate)})
+    failed = [it for its in rooms.faults.values() for it in its]
     print("".join(f"{it}\n" for it in failed), end="")
     tried_now = sum(map(len, by_crate.values()))
     return ended(max(tried_now - len(failed), 0), len(failed)) or not tried_now

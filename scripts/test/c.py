@@ -1,12 +1,12 @@
 #!/usr/bin/env python3
 """Compiles and runs the C programs over the archive for all levels of the processor and the archive of each level: those of examples/,
-whose output is worked by hand, scripts/test/calls.c, and scripts/test/id_sets.c, set_parts.c, column_tables.c and column_parts.c over the tables of
-vectors/. They are compiled as C99 with every warning an error and run with little stack, and once more with the address sanitizer if the compiler has it.
-calls.c is also compiled as C++11 and C++17, and runs over the archive for all levels on a processor of each level that qemu gives. These five
-have to name every macro of the header. The header has no warning of gcc or clang, from C99 to C23 and from C++11 to C++20, for 64 and 32 bits.
+whose output is worked by hand, scripts/test/calls.c and ranking.c, and scripts/test/id_sets.c, set_queries.c and columns.c over the tables of
+vectors/. They are compiled as C99 with every warning an error and run with little stack, and once more with the address sanitizer if the compiler
+has it. calls.c is also compiled as C++11 and C++17. Those that read no table run over the archive for all levels on a processor of each level that
+qemu gives. The header has no warning of gcc or clang, from C99 to C23 and from C++11 to C++20, for 64 and 32 bits.
 
-Then each program has to fail with another output than it has, or, if it prints nothing, with a function that returns one more; and the header has
-to be refused with a field that its empty struct lacks. The archives are those that scripts/build/archives.py wrote, which is called if they are not
+Then a program that prints nothing has to fail with a function that returns one more, and the header to be refused with a field that its empty
+struct lacks. The archives are those that scripts/build/archives.py wrote, which is called if they are not
 there. The last line is 'N passed, M failed'; a part that is left out because a tool is missing is named.
 """
 import re
@@ -26,11 +26,9 @@ STRICT = ["-Wall", "-Wextra", "-Werror", "-pedantic", f"-I{ROOT}/include"]
 C99 = ["cc", "-std=c99", *STRICT]
 CALLS = "scripts/test/calls.c"
 ID_SETS = "scripts/test/id_sets.c"
-SET_PARTS = "scripts/test/set_parts.c"
-COLUMN_TABLES = "scripts/test/column_tables.c"
-COLUMN_PARTS = "scripts/test/column_parts.c"
-# Those that name the macros of the header.
-NAMING = [CALLS, ID_SETS, SET_PARTS, COLUMN_TABLES, COLUMN_PARTS]
+SET_QUERIES = "scripts/test/set_queries.c"
+COLUMN_TABLES = "scripts/test/columns.c"
+RANKING = "scripts/test/ranking.c"
 STACK = 256 << 10  # bytes; the sanitizer needs more
 SANITIZED = ["-fsanitize=address,undefined", "-fno-sanitize-recover=all"]
 # What each compiler is asked for the header, and by language.
@@ -74,9 +72,11 @@ PROGRAMS = {
     CALLS: "",
     # Each row of the tables that it is given.
     ID_SETS: "360 sets, 2052 refusals, 102 pairs\n",
-    SET_PARTS: "360 sets in parts, 102 pairs\n",
+    # Twelve trees for each of 102 pairs.
+    SET_QUERIES: "1224 queries\n",
     COLUMN_TABLES: "727 columns, 2605 refusals\n",
-    COLUMN_PARTS: "727 columns in parts\n",
+    # Sixty rounds of 1 to 6 words, at least 0 to all of them, in five rooms.
+    RANKING: "8100 queries\n",
 }
 # For each program that prints nothing, a function of the header that it calls, and that function with a wrong answer.
 CALLED = {CALLS: "bitpacking_version"}
@@ -92,9 +92,8 @@ ONE_MORE = """#include "bitpacking.h"
 """
 VECTORS = {
     ID_SETS: ["id_sets", "refused_id_sets", "combined_id_sets"],
-    SET_PARTS: ["id_sets", "combined_id_sets"],
+    SET_QUERIES: ["combined_id_sets"],
     COLUMN_TABLES: ["columns", "refused_columns"],
-    COLUMN_PARTS: ["columns"],
 }
 
 
@@ -133,61 +132,41 @@ def given(program):
     return {"input": "".join(source(f"vectors/{table}.tsv") for table in VECTORS[program])}
 
 
-def compiled_and_run(archive, path, command, printed=None, **more):
-    """What is wrong with a program over an archive, or None. The command is that of the compiler. It prints what PROGRAMS says, or what is
-    given here."""
+def compiled_and_run(archive, path, command, **more):
+    """What is wrong with a program over an archive, or None: it has to print what PROGRAMS says. The command is that of the compiler."""
     with tempfile.TemporaryDirectory(prefix="c-") as folder:
         program = f"{folder}/program"
         right, text = works([*command, f"{ROOT}/{path}", "-x", "none", archive, "-o", program])
         if not right:
             return text
         right, text = works([program], **given(path), **more)
-        wanted = PROGRAMS[path] if printed is None else printed
-        return None if right and text == wanted else f"it failed, and printed {text[:2000]}"
-
-
-def miscounted(text):
-    """The text with another last digit."""
-    return re.sub(r"\d(?=\D*$)", lambda it: str((int(it[0]) + 1) % 10), text)
+        return None if right and text == PROGRAMS[path] else f"it failed, and printed {text[:2000]}"
 
 
 def wrong_ones():
-    """Each program with another output than it has, or over a function with a wrong answer: a name, and what is wrong if it does not fail."""
-    archive = f"{archives.OUT}/{archives.ALL}"
-    for program, text in PROGRAMS.items():
-        if program not in CALLED:
-            why = compiled_and_run(archive, program, C99, printed=miscounted(text))
-            yield f"another output of {program}", None if why == f"it failed, and printed {text}" else f"it does not fail so: {why}"
+    """A program that prints nothing over a function with a wrong answer: a name, and what is wrong if it does not fail."""
     with tempfile.TemporaryDirectory(prefix="c-") as folder:
         for program, name in CALLED.items():
             choosing.written(f"{folder}/wrong.c", levels.filled(ONE_MORE, name, *choosing.prototypes()[name]))
-            why = compiled_and_run(archive, program, [*C99, f"-Wl,--wrap={name}", f"{folder}/wrong.c"])
+            command = [*C99, f"-Wl,--wrap={name}", f"{folder}/wrong.c"]
+            why = compiled_and_run(f"{archives.OUT}/{archives.ALL}", program, command)
             right = (why or "").startswith("it failed, and printed ") and name in why
             yield f"{program} with a wrong {name}", None if right else f"it does not fail so: {why}"
 
 
 def on_other_processors():
-    """scripts/test/calls.c over the archive for all levels, on a processor of each level: each as a name and what is wrong, or None."""
+    """The programs that read no table over the archive for all levels, on a processor of each level: each as a name and what is wrong, or None."""
     if not shutil.which(levels.OTHERS):
-        leave_out(f"{CALLS} on other processors", f"since there is no {levels.OTHERS} (Debian: qemu-user-static)")
+        leave_out("the C programs on other processors", f"since there is no {levels.OTHERS} (Debian: qemu-user-static)")
         return
-    with tempfile.TemporaryDirectory(prefix="c-") as folder:
-        program = f"{folder}/program"
-        right, text = works([*C99, "-static", f"{ROOT}/{CALLS}", f"{archives.OUT}/{archives.ALL}", "-o", program])
-        for processor in levels.ONE_OF_EACH:
-            done = run(levels.OTHERS, "-cpu", processor, program, stderr=subprocess.DEVNULL) if right else None
-            wrong = f"it ended with {done.returncode}, and printed {done.stdout[:2000]}" if right and done.returncode else None
-            yield f"{CALLS} on {processor}", wrong if right else text
-
-
-def macros_not_named():
-    """What is wrong with the use of the header's macros, or None. Its guard is its own."""
-    text, used = source("include/bitpacking.h"), set(re.findall(r"\w+", "".join(map(source, NAMING))))
-    own = set(re.findall(r"^#ifndef (\w+)", text, re.M))
-    macros = set(re.findall(r"^#define (\w+)", text, re.M)) - own
-    if not macros:
-        return "the header has no macro"
-    return f"none names {' '.join(sorted(macros - used))}" if macros - used else None
+    for program in [it for it in PROGRAMS if it not in VECTORS]:
+        with tempfile.TemporaryDirectory(prefix="c-") as folder:
+            right, text = works([*C99, "-static", f"{ROOT}/{program}", f"{archives.OUT}/{archives.ALL}", "-o", f"{folder}/program"])
+            for processor in levels.ONE_OF_EACH if right else []:
+                said = works([levels.OTHERS, "-cpu", processor, f"{folder}/program"], stderr=subprocess.DEVNULL)
+                yield f"{program} on {processor}", None if said == (True, PROGRAMS[program]) else f"it printed {said[1][:2000]}"
+            if not right:
+                yield f"{program} on other processors", text
 
 
 def uses():
@@ -229,7 +208,6 @@ def headers():
 
 def checks():
     """Each check as a name and what is wrong, or None."""
-    yield f"the macros in {', '.join(NAMING)}", macros_not_named()
     yield from headers()
     sanitizers, in_cpp = has_sanitizers(), shutil.which("c++")
     if not sanitizers:

@@ -9,12 +9,13 @@ import sys
 import tempfile
 
 sys.path.insert(1, f"{sys.path[0]}/..")
-from common import ROOT, leave_out, left_out_without, missing, report, run, version
+from common import ROOT, left_out_without, report, run, version
 import archives
 import by_cargo
 import c
 import install
 import packaged
+import release
 
 # What an archive needs of C: functions of <string.h>, which compilers call by themselves, and what ends a program.
 NEEDS = {"memcpy", "memmove", "memset", "memcmp", "bcmp", "abort"}
@@ -27,13 +28,7 @@ def said(prefix):
     comments = run("objdump", "-s", "-j", ".comment", f"{prefix}/{install.STATIC}").stdout
     text = "".join(re.findall(r"^ [0-9a-f]+ (?:[0-9a-f]+ +)+ (.{1,16})$", comments, re.M))
     yield "the compiler in the archive", None if "rustc version" in text and "rattle" not in text else f"it is {text[:500]}"
-    if missing("pkg-config"):
-        leave_out("what pkg-config tells", "since there is no pkg-config")
-        return
-    env = dict(os.environ, PKG_CONFIG_PATH=f"{prefix}/lib/pkgconfig")
-    for asked, wanted in {"--modversion": version(), "--variable=compiler": "rustc"}.items():
-        found = run("pkg-config", asked, "bitpacking", env=env).stdout
-        yield f"pkg-config {asked}", None if found == f"{wanted}\n" else f"it is {found}"
+    yield from packaged.by_pkg_config(prefix, "rustc")
 
 
 def archive(path):
@@ -67,6 +62,7 @@ def checks():
         yield "install.py --from cargo", None if done.returncode == 0 and done.stdout.startswith(said_so) else done.stdout
         if done.returncode == 0:
             yield "the archive", archive(f"{prefix}/{install.STATIC}")
+            yield "the folders that the libraries name", ", ".join(release.named_folders(prefix)) or None
             yield from packaged.shared_library(f"{prefix}/{install.LINK}")
             size = os.path.getsize(f"{prefix}/{install.LINK}")
             yield "the size of the shared library", None if size < SHARED else f"it has {size} bytes"

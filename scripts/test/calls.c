@@ -1,4 +1,4 @@
-/* Calls that scripts/test/c.py runs as C99 and as C++, also under the address sanitizer: bytes worked by hand, each error with nothing
+/* Calls on blocks that scripts/test/c.py runs as C99 and as C++, also under the address sanitizer: bytes worked by hand, each error with nothing
    written, null pointers. Every width and kind is tested in rust/src/tests.rs. */
 #include "bitpacking.h"
 
@@ -139,117 +139,6 @@ static void chains(void)
     EXPECT(bitpacking_1x_unpack_all(NULL, 0, NULL, 0, NULL, 0), 0);
 }
 
-/* The set of 7, 9, 10, 300, worked by hand: byte 0 says that there are four, then the first, and the codes 1, 0 and 289 at width 9. */
-static void sets(void)
-{
-    static const uint8_t right[7] = {0x84, 7, 9, 1, 0, 0x84, 4};
-    static const uint32_t ids[4] = {7, 9, 10, 300}, twice[3] = {7, 9, 9};
-    bitpacking_set views[2] = {BITPACKING_SET_EMPTY, BITPACKING_SET_EMPTY};
-    uint32_t found[8], id = 77;
-    uint8_t bytes[BITPACKING_SET_ROOM(4)];
-    size_t position = 78, i;
-
-    EXPECT(bitpacking_set_pack(ids, 4, bytes, 6, &position), BITPACKING_SHORT);
-    EXPECT(bitpacking_set_pack(twice, 3, bytes, sizeof bytes, NULL), BITPACKING_NOT_SORTED);
-    EXPECT(position, 78);
-    EXPECT((bitpacking_set_pack)(twice, 3, bytes, sizeof bytes, &position), BITPACKING_NOT_SORTED);
-    EXPECT(position, 2);
-    EXPECT(bitpacking_set_pack(ids, 4, bytes, sizeof bytes, NULL), 7);
-    EXPECT(memcmp(bytes, right, 7), 0);
-    EXPECT(bitpacking_set_open(bytes, 6, &views[0]), BITPACKING_TRUNCATED);
-    EXPECT(bitpacking_set_len(&views[0]), 0);
-    EXPECT(bitpacking_set_open(bytes, 7, &views[0]), 0);
-    bitpacking_set_open_tested(bytes, 7, &views[1]);
-    EXPECT(bitpacking_set_len(&views[1]), 4);
-    EXPECT(bitpacking_set_contains(&views[0], 10), 1);
-    EXPECT(bitpacking_set_contains(&views[0], 11), 0);
-    EXPECT(bitpacking_set_get(&views[0], 4, &id), 0);
-    EXPECT(bitpacking_set_seek(&views[0], 301, &position, &id), 0);
-    EXPECT(position + id, 79);
-    EXPECT(bitpacking_set_get(&views[0], 1, &id), 1);
-    EXPECT(id, 9);
-    EXPECT(bitpacking_set_seek(&views[0], 11, &position, &id), 1);
-    EXPECT(position, 3);
-    EXPECT(id, 300);
-    EXPECT(bitpacking_set_unpack(&views[0], found, 8), 4);
-    EXPECT(bitpacking_set_intersect(views, 2, found, 8), 4);
-    EXPECT(bitpacking_set_unite(views, 2, found, 8), 4);
-    for (i = 0; i < 4; i++)
-        EXPECT(found[i], (ptrdiff_t)ids[i]);
-    EXPECT(bitpacking_set_subtract(views, 2, found, 8), 0);
-    EXPECT(bitpacking_set_count_common(views, 2), 4);
-    EXPECT(bitpacking_set_count_any(views, 2), 4);
-}
-
-/* The sorted column of 5, 5, 9, worked by hand: byte 0 says sorted and three values, then the first, and the codes 0 and 4 at width 3. */
-static void columns(void)
-{
-    static const uint8_t right[4] = {0x63, 5, 3, 0x20};
-    static const uint32_t values[3] = {5, 5, 9}, falls[3] = {5, 9, 8};
-    static const size_t positions[2] = {2, 3};
-    bitpacking_column column = BITPACKING_COLUMN_EMPTY;
-    uint32_t found[4] = {77, 77, 77, 77}, value = 77, greatest = 77;
-    uint64_t sums[3], sum = 77;
-    uint8_t bytes[BITPACKING_COLUMN_ROOM(6)];
-    size_t position = 78, rows[4];
-
-    EXPECT(bitpacking_column_pack(2, values, 3, bytes, sizeof bytes, NULL), BITPACKING_BAD_KIND);
-    EXPECT(bitpacking_column_pack(BITPACKING_SORTED, falls, 3, bytes, sizeof bytes, &position), BITPACKING_NOT_SORTED);
-    EXPECT(position, 2);
-    EXPECT(bitpacking_column_size(BITPACKING_SORTED, values, 3, NULL), 4);
-    EXPECT(bitpacking_column_pack(BITPACKING_SORTED, values, 3, bytes, 4, NULL), 4);
-    EXPECT(memcmp(bytes, right, 4), 0);
-    EXPECT(bitpacking_column_seek(&column, 5, &position, &value), BITPACKING_BAD_KIND);
-    EXPECT(bitpacking_column_open(bytes, 5, &column), BITPACKING_TRAILING);
-    EXPECT(bitpacking_column_open(bytes, 4, &column), 0);
-    EXPECT(bitpacking_column_len(&column), 3);
-    EXPECT(bitpacking_column_kind(&column), BITPACKING_SORTED);
-    EXPECT(bitpacking_column_seek(&column, 6, &position, &value), 1);
-    EXPECT(position, 2);
-    EXPECT(value, 9);
-    EXPECT(bitpacking_column_gather(&column, positions, 2, found, 4), BITPACKING_BAD_POSITION);
-    EXPECT(bitpacking_column_bounds(&column, 0, &value, &greatest), BITPACKING_BAD_BLOCK);
-    EXPECT(found[0], 77);
-    EXPECT(bitpacking_column_gather(&column, positions, 1, found, 4), 1);
-    EXPECT(found[0], 9);
-    EXPECT(bitpacking_column_range(&column, 1, found, 4), 2);
-    EXPECT(found[0], 5);
-    EXPECT(bitpacking_column_unpack(&column, found, 2), BITPACKING_SHORT);
-    EXPECT(bitpacking_column_between(&column, 5, 8, 0, rows, 4), 2);
-    EXPECT(rows[1], 1);
-    EXPECT(bitpacking_column_count_between(&column, 5, 8), 2);
-    EXPECT(bitpacking_column_get_wide(&column, BITPACKING_MAX_BASE + 1, 0, &sum), BITPACKING_BAD_BASE);
-    EXPECT(sum == 77, 1);
-    EXPECT(bitpacking_column_get_wide(&column, BITPACKING_MAX_BASE, 2, &sum), 1);
-    EXPECT(sum == BITPACKING_MAX_BASE + 9, 1);
-    EXPECT(bitpacking_column_unpack_wide(&column, BITPACKING_MAX_BASE, sums, 3), 3);
-    EXPECT(sums[1] == BITPACKING_MAX_BASE + 5, 1);
-    EXPECT(bitpacking_column_join(&column, UINT32_MAX - 8, &column, found, 4, bytes, sizeof bytes, &position), BITPACKING_BAD_BASE);
-    EXPECT(position, 2);
-}
-
-/* A builder without room, and one of the column above. */
-static void builders(void)
-{
-    static const uint8_t right[4] = {0x63, 5, 3, 0x20};
-    static const uint32_t values[2] = {5, 9};
-    bitpacking_column_builder builder = BITPACKING_COLUMN_BUILDER_EMPTY;
-    uint32_t room[3];
-    uint8_t bytes[BITPACKING_COLUMN_ROOM(3)];
-    size_t position = 78;
-
-    EXPECT(bitpacking_column_builder_push(&builder, 5), BITPACKING_SHORT);
-    EXPECT(bitpacking_column_builder_start(&builder, 2, room, 3), BITPACKING_BAD_KIND);
-    EXPECT(bitpacking_column_builder_start(&builder, BITPACKING_SORTED, room, 3), 0);
-    EXPECT(bitpacking_column_builder_push(&builder, 5), 1);
-    EXPECT(bitpacking_column_builder_push(&builder, 4), BITPACKING_NOT_SORTED);
-    EXPECT(bitpacking_column_builder_extend(&builder, values, 2, &position), 3);
-    EXPECT(position, 78);
-    EXPECT(bitpacking_column_builder_len(&builder), 3);
-    EXPECT(bitpacking_column_builder_finish(&builder, bytes, sizeof bytes), 4);
-    EXPECT(memcmp(bytes, right, 4), 0);
-}
-
 /* Each error of the header has its number and its sentence, and no other number has one of these. */
 static void texts(void)
 {
@@ -257,13 +146,14 @@ static void texts(void)
         ptrdiff_t number, right;
     } errors[] = {{BITPACKING_BAD_LENGTH, -1},       {BITPACKING_BAD_WIDTH, -2},    {BITPACKING_SHORT, -3},
                   {BITPACKING_UNFIT, -4},            {BITPACKING_BAD_POSITION, -5}, {BITPACKING_BAD_BLOCK, -6},
-                  {BITPACKING_BAD_BASE, -7},         {BITPACKING_TRUNCATED, -21},   {BITPACKING_BAD_VERSION, -22},
-                  {BITPACKING_BAD_KIND, -23},        {BITPACKING_TOO_LONG, -25},    {BITPACKING_BAD_GROUP_WIDTH, -26},
-                  {BITPACKING_LOOSE_WIDTH, -27},     {BITPACKING_BAD_OFFSET, -28},  {BITPACKING_BAD_LAST, -29},
-                  {BITPACKING_NOT_SORTED, -30},      {BITPACKING_TRAILING, -31},    {BITPACKING_BAD_NUMBER, -33},
-                  {BITPACKING_PADDING, -34},         {BITPACKING_BAD_SIZES, -36},   {BITPACKING_BAD_KEY, -38},
-                  {BITPACKING_BAD_SUM, -39},         {BITPACKING_BAD_BODY, -40},    {BITPACKING_LOOSE_BODY, -41},
-                  {BITPACKING_LOOSE_FORM, -42}};
+                  {BITPACKING_BAD_BASE, -7},         {BITPACKING_NO_SET, -8},       {BITPACKING_TOO_DEEP, -9},
+                  {BITPACKING_NO_OPERAND, -10},      {BITPACKING_LEFT_OVER, -11},   {BITPACKING_TRUNCATED, -21},
+                  {BITPACKING_BAD_VERSION, -22},     {BITPACKING_BAD_KIND, -23},    {BITPACKING_TOO_LONG, -25},
+                  {BITPACKING_BAD_GROUP_WIDTH, -26}, {BITPACKING_LOOSE_WIDTH, -27}, {BITPACKING_BAD_OFFSET, -28},
+                  {BITPACKING_BAD_LAST, -29},        {BITPACKING_NOT_SORTED, -30},  {BITPACKING_TRAILING, -31},
+                  {BITPACKING_BAD_NUMBER, -33},      {BITPACKING_PADDING, -34},     {BITPACKING_BAD_SIZES, -36},
+                  {BITPACKING_BAD_KEY, -38},         {BITPACKING_BAD_SUM, -39},     {BITPACKING_BAD_BODY, -40},
+                  {BITPACKING_LOOSE_BODY, -41},      {BITPACKING_LOOSE_FORM, -42},     {BITPACKING_BAD_TABLE, -12}};
     enum { COUNT = sizeof errors / sizeof *errors };
     const char *const no_error = "No error has this number.";
     ptrdiff_t number;
@@ -287,9 +177,6 @@ int main(void)
     constants();
     errors();
     chains();
-    sets();
-    columns();
-    builders();
     texts();
     return failed;
 }

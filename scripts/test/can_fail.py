@@ -166,7 +166,7 @@ def records():
     yield "edits without a record", tried(sums, {}), every
     yield "edits without a commit", tried(sums, sums, ""), every
     edits = [Edit(f"one/it/{number}") for number in range(100)]
-    one, two = ({it.path for it in record.some_of(edits, by)} for by in ("a hash", "another"))
+    one, two = ({it.path for it in record.chosen({"one": edits}, {"one": "1"}, {"one": "1"}, by)["one"]} for by in ("a hash", "another"))
     yield "edits by another commit", one != two, True
     edit = texts.paths(f"{changes.FOLDER}/{CRATE}/*/*.edit")[0]
     for path, wanted in [(f"crates/{CRATE}/src/word.rt", {CRATE: 100, "bitpacking": 100}), (edit, {CRATE: 100, "bitpacking": 10})]:

@@ -1,39 +1,11 @@
 """The functions of the crates whose source changed since HEAD, and what the prover says of them over the libraries in out/proved/."""
 
-import dataclasses
 import os
 import re
 
 from common import ROOT, leave_out, run
 from texts import code, end_of_braces
 import proving
-
-
-@dataclasses.dataclass(frozen=True)
-class Function:
-    path: str
-    name: str
-    start: int  # the index of `fn`
-    ends: int  # the index after its body
-    owner: str  # the type of its impl, its trait, or nothing
-    of_trait: bool  # whether its impl is of a trait
-
-
-def owners_in(text):
-    """The impls and traits of a text: where each begins and ends, its type, and whether it is an impl of a trait."""
-    for found in re.finditer(r"^(?:pub(?:\(\w+\))? )?(impl|trait)\b([^{;]*)\{", text, re.M):
-        head = re.sub(r"^<[^{]*?>(?= )", "", found[2].strip()).strip()
-        of = re.search(r"\bfor (\w+)", head)
-        name = of[1] if of else re.match(r"\w*", head)[0]
-        yield found.start(), end_of_braces(text, found.end() - 1), name, of is not None
-
-
-def functions_of(path, text):
-    """The functions of a text that runs."""
-    owners = list(owners_in(text))
-    for it in re.finditer(r"\bfn (\w+)([^{;]*)\{", text):
-        owner = [(name, of_trait) for start, end, name, of_trait in owners if start < it.start() < end] or [("", False)]
-        yield Function(path, it[1], it.start(), end_of_braces(text, it.end() - 1), *owner[-1])
 
 
 def crates():

@@ -31,7 +31,6 @@ EXAMPLE = "examples/dask"
 # The tests over a cluster, and those without one.
 TESTS = ["../examples/dask/test_index.py", "../examples/dask/test_shards.py"]
 PORT, MARK = "8786", "-- the next command --"
-MOST_LINES = 400
 # Wrong changes: a file of the example, lines in it and other lines, and the tests, of which one has to fail.
 WRONG = [
     ("index.py", 'part += np.uint64(shard["first"])', "pass", "test_answers"),
@@ -81,10 +80,8 @@ def printed(folder, commands):
     """What each command of one shell prints. Whatever it leaves running is ended with its group."""
     text = "".join(f"{it}\necho '{MARK}'\n" for it in commands)
     how = {"stdin": subprocess.PIPE, "stdout": subprocess.PIPE, "stderr": subprocess.STDOUT, "text": True, "errors": "replace"}
-    env = {name: it for name, it in os.environ.items() if name not in ("PYTHONPATH", "BITPACKING")} | {
-        "LC_ALL": "C.UTF-8",
-        "PIP_DISABLE_PIP_VERSION_CHECK": "1",
-    }
+    env = {name: it for name, it in os.environ.items() if name not in ("PYTHONPATH", "BITPACKING")}
+    env |= {"LC_ALL": "C.UTF-8", "PIP_DISABLE_PIP_VERSION_CHECK": "1"}
     with subprocess.Popen(["bash"], cwd=folder, env=env, start_new_session=True, **how) as shell:
         try:
             return shell.communicate(text + "wait\n", timeout=PATIENCE)[0].split(f"{MARK}\n")
@@ -118,11 +115,8 @@ def wrong_change(package, number):
     with open(f"{mine.folder}/{name}", "w", encoding="utf-8") as file:
         file.write(text.replace(before, after))
     why = None if text.count(before) == 1 else f"its lines are there {text.count(before)} times"
-    found = (
-        []
-        if why
-        else list(mine.tested("with a wrong change", "-x", "-k", test, *(f"{mine.folder}/{os.path.basename(it)}" for it in TESTS)))
-    )
+    tests = [f"{mine.folder}/{os.path.basename(it)}" for it in TESTS]
+    found = [] if why else list(mine.tested("with a wrong change", "-x", "-k", test, *tests))
     # A cluster that does not start refuses nothing.
     refused = any(wrong and test in it and not wrong.startswith("failed on setup") for it, wrong in found)
     return f"a wrong change of {name}: {after}", why or (None if refused else f"{test} does not fail: {found}")
@@ -133,10 +127,7 @@ def checks(interpreter):
         package = python.Package(folder, interpreter)
         shutil.copytree(f"{ROOT}/examples", f"{folder}/examples", ignore=shutil.ignore_patterns("target", "__pycache__"))
         os.symlink(f"{ROOT}/scripts", f"{folder}/scripts")
-        paged = list(of_page(folder, interpreter))
-        yield from paged
-        lines = {it: source(f"{EXAMPLE}/{it}").count("\n") for it in os.listdir(f"{folder}/{EXAMPLE}") if it.endswith(".py")}
-        yield "the lines of the example", None if max(lines.values()) < MOST_LINES else f"there are {lines}"
+        yield from of_page(folder, interpreter)
         if not os.path.exists(f"{package.room}/bin/python"):
             return
         yield from package.tested("of the index", *TESTS)

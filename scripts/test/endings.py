@@ -3,8 +3,7 @@
 
 Each of them has to end with status 1 and its one line on standard error, and with nothing of that line on standard output: the
 input is a directory, the output is full, the output is a pipe that nobody reads, or a long `dec` has too little address space. A run to
-the end has status 0 and says nothing. Each run has to fail if another status, answer or message is wanted. The last line is
-'N passed, M failed'.
+the end has status 0 and says nothing. The last line is 'N passed, M failed'.
 """
 import os
 import resource
@@ -47,28 +46,11 @@ def runs():
     yield "a line before too little memory", ran(LINE + LONG, limit=LIMIT), (1, ANSWER, b"bitpack: out of memory\n")
 
 
-def otherwise(found, right):
-    """What is wrong with how a run ended, or None."""
-    return None if found == right else f"it ended with {str(found)[:200]}, and not {right}"
-
-
-def others(right):
-    """Other ends of a run, each with what it has another of."""
-    status, answer, message = right
-    yield "status", (1 - status, answer, message)
-    yield "message", (status, answer, message + b"x")
-    if answer is not None:
-        yield "answer", (status, answer + b"0", message)
-
-
 def checks():
-    """Each run as its name and how it ended, if not as it has to; and each that does not fail if another end is wanted."""
     built = subprocess.run([f"{ROOT}/bitpack"], input=LINE, stdout=subprocess.PIPE)
     yield "the script bitpack", None if built.stdout == ANSWER else f"it printed {built.stdout}"
     for name, found, right in runs():
-        yield name, otherwise(found, right)
-        for what, wrong in others(right):
-            yield f"{name}, with another {what}", None if otherwise(found, wrong) else "nothing refuses it"
+        yield name, None if found == right else f"it ended with {str(found)[:200]}, and not {right}"
 
 
 if __name__ == "__main__":

@@ -17,7 +17,7 @@ rustup. Or they are unpacked in a folder that BITPACKING_RUSTC_WEB names, and no
     for it in *.deb; do dpkg -x "$it" FOLDER; done
 
 wasi-libc may be unpacked there too. A library takes about two minutes of a processor, and is built once, in out/machines/. The last line is
-'N passed, M failed': each test of the vectors of words, each check of vectors/ and each target that compiles counts.
+'N passed, M failed', of machines.
 """
 import concurrent.futures
 import glob
@@ -31,23 +31,34 @@ import time
 from typing import NamedTuple
 
 sys.path.insert(1, f"{sys.path[0]}/..")
-from common import ROOT, ended, leave_out, left_out_without, missing, run, words
+from common import ROOT, leave_out, left_out_without, missing, report, run, words
+import choosing
 import fast
 
 OUT = f"{ROOT}/out/machines"
 PACKAGES = "rustc-web cargo-web libstd-rust-web-dev rust-web-src"
 NATIVE = "x86_64-unknown-linux-gnu"
-QUICK = {"OPT_LEVEL": "1", "LTO": "off", "CODEGEN_UNITS": "16"}
+QUICK = {"LTO": "off", "CODEGEN_UNITS": "16"}
 
 
 class Machine(NamedTuple):
-    """A target, flags of its compiler, what links and what runs a program, and features that this processor needs to run it."""
+    """A target, flags of its compiler, what links and what runs a program, features that this processor needs to run it, and the level of
+    optimization of its tests."""
 
     target: str
     flags: tuple = ()
     linker: str = "cc"
     runner: tuple = ()
     features: tuple = ()
+    level: str = "1"
+
+    @property
+    def is_wasm(self):
+        return self.target.startswith("wasm32")
+
+    @property
+    def is_wasi(self):
+        return self.target.endswith("wasip1")
 
 
 STATIC = ("-Ctarget-feature=+crt-static",)
@@ -60,17 +71,11 @@ MACHINES = {
     "aarch64": Machine("aarch64-unknown-linux-gnu", STATIC, "aarch64-linux-gnu-gcc", ("qemu-aarch64-static",)),
     "s390x": Machine("s390x-unknown-linux-gnu", STATIC, "s390x-linux-gnu-gcc", ("qemu-s390x-static",)),
     "wasm32": Machine("wasm32-wasip1", (), "wasm-ld", NODE),
-    "wasm32-simd128": Machine("wasm32-wasip1", ("-Ctarget-feature=+simd128",), "wasm-ld", NODE),
+    # At the level of users, since there LLVM 22 failed.
+    "wasm32-simd128": Machine("wasm32-wasip1", ("-Ctarget-feature=+simd128",), "wasm-ld", NODE, level="3"),
 }
-CHECKED = [
-    "x86_64-pc-windows-msvc",
-    "x86_64-apple-darwin",
-    "aarch64-apple-darwin",
-    "x86_64-unknown-linux-musl",
-    "riscv64gc-unknown-linux-gnu",
-    "wasm32-unknown-unknown",
-    "thumbv7em-none-eabihf",
-]
+CHECKED = """x86_64-pc-windows-msvc x86_64-apple-darwin aarch64-apple-darwin x86_64-unknown-linux-musl riscv64gc-unknown-linux-gnu
+wasm32-unknown-unknown thumbv7em-none-eabihf""".split()
 
 
 class Rust(NamedTuple):
@@ -84,8 +89,8 @@ class Rust(NamedTuple):
 
 # One library is built at a time.
 BUILDING = threading.Lock()
-# The library for WebAssembly names functions of threads that wasi-libc does not have. Without threads nothing calls them, and a call would trap.
-WASM = ("-Clink-arg=--unresolved-symbols=ignore-all",)
+# The library for WASI names functions of threads that wasi-libc does not have. Without threads nothing calls them, and a call would trap.
+WASI = ("-Clink-arg=--unresolved-symbols=ignore-all",)
 
 
 def has_library(target):
@@ -117,12 +122,12 @@ def from_source(word, crates, target, folder, built, *more, **variables):
     return run(rust.cargo, word, "--quiet", "--offline", *words, f"-Zbuild-std={crates}", "--target", target, *more, folder=folder, env=env)
 
 
-def rust_for(target):
-    """The compiler that has the library of a target."""
-    if has_library(target):
+def rust_for(machine):
+    """The compiler that has the library of a machine."""
+    if has_library(machine.target):
         return Rust("cargo", "rustc", dict(os.environ))
     with BUILDING:
-        return of_web(f"--sysroot={library(target)}", *(WASM if target.startswith("wasm32") else ()))
+        return of_web(f"--sysroot={library(machine)}", *(WASI if machine.is_wasi else ()))
 
 
 def wasi_libc():
@@ -131,18 +136,17 @@ def wasi_libc():
     return next((it for it in folders if os.path.exists(f"{it}/libc.a")), None)
 
 
-def library(target):
-    """The folder of the library of a target, which is built once by each version of the compiler."""
+def library(machine):
+    """The folder of the library of a machine, which is built once by each version of the compiler."""
+    target = machine.target
     version = run(of_web().rustc, "--version", env=of_web().env).stdout.split()[1]
     folder, build = f"{OUT}/std-{version}/{target}", f"{OUT}/build-{target}"
     if os.path.exists(f"{folder}/built"):
         return folder
     print(f"builds the library of Rust for {target}", flush=True)
     os.makedirs(build, exist_ok=True)
-    with open(f"{build}/Cargo.toml", "w", encoding="utf-8") as file:
-        file.write('[package]\nname = "nothing"\nedition = "2024"\n[lib]\npath = "nothing.rs"\n[workspace]\n')
-    with open(f"{build}/nothing.rs", "w", encoding="utf-8") as file:
-        file.write("#![no_std]\n")
+    choosing.written(f"{build}/Cargo.toml", '[package]\nname = "nothing"\nedition = "2024"\n[lib]\npath = "nothing.rs"\n[workspace]\n')
+    choosing.written(f"{build}/nothing.rs", "#![no_std]\n")
     more = ["--release", "-Zbuild-std-features=panic-unwind"]
     crates = "core,alloc,std,panic_abort,test"
     done = from_source("build", crates, target, build, f"{build}/target", *more, CARGO_PROFILE_RELEASE_OPT_LEVEL="1")
@@ -152,11 +156,11 @@ def library(target):
     os.makedirs(f"{libraries}/self-contained", exist_ok=True)
     for path in glob.glob(f"{build}/target/{target}/release/deps/*.rlib"):
         shutil.copy(path, libraries)
-    for name in ["crt1-command.o", "libc.a"] if target.startswith("wasm32") else []:
+    for name in ["crt1-command.o", "libc.a"] if machine.is_wasi else []:
         shutil.copy(f"{wasi_libc()}/{name}", f"{libraries}/self-contained")
     shutil.rmtree(build)
-    with open(f"{folder}/built", "w", encoding="utf-8"):
-        return folder
+    choosing.written(f"{folder}/built", "")
+    return folder
 
 
 def lack(machine):
@@ -174,57 +178,59 @@ def lack(machine):
         return None
     if not web():
         return f"since there is no library of Rust: rustup target add {machine.target}, or unpack {PACKAGES}"
-    return "since there is no wasi-libc" if machine.target.startswith("wasm32") and not wasi_libc() else None
+    return "since there is no wasi-libc" if machine.is_wasi and not wasi_libc() else None
 
 
-def panic(target):
-    """What a panic does on a target: what it does in the library that cargo builds from source."""
-    return "abort" if target.startswith("wasm32") else "unwind"
+def built(machine, folder, to, *more, **profile):
+    """Compiles a package in a folder for a machine, by these changes of cargo's profile. Returns the folder of what it made."""
+    rust, named = rust_for(machine), machine.target.upper().replace("-", "_")
+    # A panic does what it does in the library that cargo builds from source.
+    profile = {"PANIC": "abort" if machine.is_wasm else "unwind"} | profile
+    env = rust.env | {f"CARGO_PROFILE_RELEASE_{it}": value for it, value in profile.items()}
+    env |= {"CARGO_TARGET_DIR": to, f"CARGO_TARGET_{named}_LINKER": machine.linker}
+    env |= {"RUSTFLAGS": " ".join(["-Dwarnings", *rust.flags, *machine.flags])}
+    words = ["--quiet", "--release", "--offline", "--locked", "--target", machine.target]
+    fast.called(rust.cargo, "build", *words, *more, folder=folder, env=env)
+    return f"{to}/{machine.target}/release"
 
 
-def tests_of_simd(name, machine, rust):
-    """How many tests of the vectors of words passed on a machine, and why they failed, or None."""
+def example(name, called, **profile):
+    """Compiles an example of the crate for a machine, by these changes of cargo's profile. Returns the command that runs it."""
+    machine = MACHINES[name]
+    folder = built(machine, ROOT, f"{OUT}/{name}", "--features", "__source", "--example", called, **profile)
+    return [*machine.runner, f"{folder}/examples/{called}{'.wasm' * machine.is_wasm}"]
+
+
+def tests_of_simd(name):
+    """Compiles the tests of the vectors of words for a machine. Returns the command that runs them."""
+    machine, rust = MACHINES[name], rust_for(MACHINES[name])
     source, program = f"{OUT}/{name}/simd.rs", f"{OUT}/{name}/simd"
-    with open(source, "w", encoding="utf-8") as file:
-        file.write(f'#![no_std]\nextern crate alloc;\n#[path = "{ROOT}/rust/src"]\nmod of_crate {{\n    mod simd;\n}}\n')
+    choosing.written(source, f'#![no_std]\nextern crate alloc;\n#[path = "{ROOT}/rust/src"]\nmod of_crate {{\n    mod simd;\n}}\n')
     flags = [*rust.flags, *machine.flags, f"-Clinker={machine.linker}", "--target", machine.target, "-Aunused"]
     fast.called(rust.rustc, "--edition=2024", "--test", *flags, source, "-o", program, env=rust.env)
-    done = run(*machine.runner, program)
-    found = re.search(r"^test result: ok\. (\d+) passed; 0 failed", done.stdout, re.M)
-    passed = int(found[1]) if found and done.returncode == 0 else 0
-    return passed, None if passed else done.stdout[-3000:]
+    return [*machine.runner, program]
 
 
-def checks_of_vectors(name, machine, rust):
-    """How many checks of vectors/ passed on a machine, how many failed, and why, or None."""
-    target = machine.target.upper().replace("-", "_")
-    flags = " ".join(["-Dwarnings", *rust.flags, *machine.flags])
-    # Quick to compile, and as for users: no overflow is tested.
-    profile = {f"CARGO_PROFILE_RELEASE_{it}": value for it, value in {**QUICK, "PANIC": panic(machine.target)}.items()}
-    more = {"CARGO_TARGET_DIR": f"{OUT}/{name}", f"CARGO_TARGET_{target}_LINKER": machine.linker, **profile}
-    command = [rust.cargo, "build", "--quiet", "--release", "--offline", "--locked", "--features", "__source", "--example", "vectors"]
-    fast.called(*command, "--target", machine.target, folder=ROOT, env={**rust.env, "RUSTFLAGS": flags, **more})
-    program = f"{OUT}/{name}/{machine.target}/release/examples/vectors"
-    done = run(*machine.runner, program + ".wasm" * machine.target.startswith("wasm32"), f"{ROOT}/vectors")
-    counts = re.findall(r"^(\d+) passed, (\d+) failed$", done.stdout, re.M)
-    passed, failed = map(int, counts[-1]) if counts else (0, 1)
-    right = done.returncode == 0 and passed > 0 and failed == 0
-    return passed, max(failed, not right), None if right else done.stdout[-3000:]
+def passed(command, pattern):
+    """How many tests a program passed, which is in its output as the pattern says if none failed."""
+    found = re.search(pattern, text := fast.called(*command), re.M)
+    if not found:
+        raise fast.Failed(text[-3000:])
+    return int(found[1])
 
 
 def on_machine(name):
-    """What a machine passed: tests, checks of vectors/, and what failed with why."""
-    machine, start = MACHINES[name], time.time()
+    """How many tests of the vectors of words and checks of vectors/ a machine passed, or why one failed."""
+    start = time.time()
     os.makedirs(f"{OUT}/{name}", exist_ok=True)
     try:
-        rust = rust_for(machine.target)
-        tests, why_tests = tests_of_simd(name, machine, rust)
-        checks, failed, why_checks = checks_of_vectors(name, machine, rust)
+        tests = passed(tests_of_simd(name), r"^test result: ok\. ([1-9]\d*) passed; 0 failed")
+        command = [*example(name, "vectors", OPT_LEVEL=MACHINES[name].level, **QUICK), f"{ROOT}/vectors"]
+        rows = passed(command, r"^([1-9]\d*) passed, 0 failed$")
     except fast.Failed as why:
-        return 0, 0, 1, [f"FAILED: {name}: {why}"]
-    whys = [f"FAILED: {name}, {part}: {why}" for part, why in [("simd", why_tests), ("vectors", why_checks)] if why]
-    print(f"{name}: {tests} tests of simd and {checks} checks of vectors passed, {time.time() - start:.0f} s", flush=True)
-    return tests, checks, failed + bool(why_tests), whys
+        return str(why)
+    print(f"{name}: {tests} tests of simd and {rows} checks of vectors passed, {time.time() - start:.0f} s", flush=True)
+    return tests, rows
 
 
 def compiles(target):
@@ -232,15 +238,6 @@ def compiles(target):
     more = ["--no-default-features", "--lib"]
     done = from_source("check", "core,alloc", target, ROOT, f"{OUT}/check", *more, RUSTFLAGS="-Dwarnings")
     return done.stdout[-3000:] if done.returncode else None
-
-
-def checked(targets):
-    """Checks that the crate compiles for each target. Returns how many passed, and what failed."""
-    if targets and not web():
-        leave_out(", ".join(targets), f"since there is no source of Rust's library: unpack {PACKAGES}")
-        return 0, []
-    failed = [f"FAILED: {target}: {why}" for target in targets for why in [compiles(target)] if why]
-    return len(targets) - len(failed), failed
 
 
 def able(names):
@@ -251,22 +248,25 @@ def able(names):
     return [name for name in names if not lacks[name]]
 
 
+def checks(wanted):
+    names, targets = able([it for it in wanted if it in MACHINES]), [it for it in wanted if it in CHECKED]
+    with concurrent.futures.ThreadPoolExecutor(max(1, (os.cpu_count() or 1) // 2)) as pool:
+        results = dict(zip(names, pool.map(on_machine, names)))
+    yield from ((name, found if isinstance(found, str) else None) for name, found in results.items())
+    counts = {found for found in results.values() if not isinstance(found, str)}
+    yield "machines pass as many checks as each other", None if len(counts) < 2 else f"they passed {sorted(counts)}"
+    if targets and not web():
+        leave_out(", ".join(targets), f"since there is no source of Rust's library: unpack {PACKAGES}")
+    else:
+        yield from ((target, compiles(target)) for target in targets)
+
+
 def main():
     wanted = words() or [*MACHINES, *CHECKED]
     unknown = [it for it in wanted if it not in MACHINES and it not in CHECKED]
     if unknown:
         sys.exit(f"machines.py: no machine {unknown[0]}")
-    if left_out_without("all machines", "cargo", "rustc"):
-        return 0
-    with concurrent.futures.ThreadPoolExecutor(max(1, (os.cpu_count() or 1) // 2)) as pool:
-        results = [*pool.map(on_machine, able([it for it in wanted if it in MACHINES]))]
-    compiled, whys = checked([it for it in wanted if it in CHECKED])
-    right = [result for result in results if not result[3]]
-    for counts in [{it[0] for it in right}, {it[1] for it in right}]:
-        if len(counts) > 1:
-            whys.append(f"FAILED: machines passed different numbers of checks: {sorted(counts)}")
-    print("".join(f"{why}\n" for why in [*(why for result in results for why in result[3]), *whys]), end="")
-    return ended(sum(tests + checks for tests, checks, _, _ in results) + compiled, sum(result[2] for result in results) + len(whys))
+    return 0 if left_out_without("all machines", "cargo", "rustc") else report(checks(wanted))
 
 
 if __name__ == "__main__":

@@ -1,5 +1,5 @@
-"""What scripts/test/number_files.py tries, and what is right then: numbers with the bytes that the models of docs/FORMAT.md write, damaged files
-with the faults that the decoders of that page find, questions with answers by lists of Python, and wrong calls.
+"""What scripts/test/number_files.py tries, and what is right then: numbers with the bytes that the models of docs/FORMAT.md write, the faults that
+the decoders of that page find, questions with answers by lists of Python, and wrong calls.
 """
 import bisect
 import operator
@@ -11,11 +11,10 @@ from common import source
 import vectors
 
 FOLDER = "examples/numbers"
-DAMAGES = 1000
 MODEL = vectors.names_of(vectors.model())
 # The kinds with their names and the order of two neighbours.
 KINDS = {"set": ("set", operator.lt), "sorted": ("sorted column", operator.le), "plain": ("plain column", lambda before, after: True)}
-FAULTS = {name: number for number, name in re.findall(r"\| (\d+)(?: \|)? ([A-Z]\w+)[^|]* \|", source("docs/FORMAT.md"))}
+FAULTS = {name: number for number, name in re.findall(r"\| (\d+) ([A-Z]\w+)", source("docs/FORMAT.md"))}
 # The texts of errors by their names, with the names of what is put in.
 TEXTS = {
     crate: dict(
@@ -95,19 +94,6 @@ def finding(encoding):
         return f"fault {FAULTS[fault]}: {details[0]} is the first byte of no set and no column"
     names, text = next((found[1], text) for name, text in TEXTS[crate].items() if (found := re.fullmatch(rf"{fault}(?:\((.*)\))?", name)))
     return f"fault {FAULTS[fault]}: {text.format(**dict(zip((names or '').split(', '), details)))}"
-
-
-def damaged():
-    """Files that are cut, or have other bytes in front or anywhere."""
-    chance = random.Random(2)
-    whole = [packed("set", SAMPLES[name][:600]) for name in ("few", "close", "close and far", "far")]
-    whole += [packed(kind, SAMPLES[name][:count]) for kind, name in (("sorted", "repeated"), ("plain", "any")) for count in (40, 300)]
-    for number in range(DAMAGES):
-        encoding = bytearray(chance.choice(whole))
-        for _ in range(chance.randrange(1, 4)):
-            at = chance.randrange(min(len(encoding), [12, len(encoding)][number % 2]))
-            encoding[at] = chance.choice([0, 1, 127, 128, 255, chance.randrange(256)])
-        yield bytes(encoding[: chance.randrange(len(encoding))] if number % 5 == 0 else encoding)
 
 
 def asked(kind, values):

@@ -1,12 +1,10 @@
 #!/usr/bin/env python3
 """Runs each command of the page of examples/numbers/, which install the program with warnings as errors, and compares what they print with the
-page. Then it compares each verb with sets and sorted lists of Python: the bytes that it writes with the models of docs/FORMAT.md, what it reads
-of the tables of vectors/, and the faults that it finds in these and in a thousand damaged files with those of the decoders of that page. Then
-wrong calls, files that are replaced or not, and what a terminal shows. A script `numbers.py` would hide the module of this name from the
-library of Python. The last line is 'N passed, M failed'.
+page. Then it compares each verb with sets and sorted lists of Python: the bytes that it writes with the models of docs/FORMAT.md, and the faults
+that it finds in the refused rows of vectors/ with those of the decoders of that page. Then wrong calls, files that are replaced or not, and what
+a terminal shows. A script `numbers.py` would hide the module of this name from the library of Python. The last line is 'N passed, M failed'.
 """
 import functools
-import glob
 import itertools
 import operator
 import os
@@ -18,16 +16,13 @@ import stat
 import subprocess
 import sys
 import tempfile
-import time
 
 sys.path.insert(1, f"{sys.path[0]}/..")
 from common import ROOT, leave_out, left_out_without, report, run, source
 from number_cases import FOLDER, HELP, HELPS, KINDS, MISSING, SAMPLES, VERBS, WRONG_CALLS, WRONG_NUMBERS
-from number_cases import asked, binary_of, damaged, description, disorder, finding, packed, text_of
-from rows import numbers, octets, spelled_ids, table
-from terminal import Terminal
+from number_cases import asked, binary_of, description, disorder, finding, packed, text_of
+from rows import octets, table
 
-MOST_LINES, MOST_LINES_OF_FILE = 600, 250
 # Seconds for one call, which takes far below one.
 PATIENCE = 240
 
@@ -125,33 +120,18 @@ def texts(program):
         yield f"the words {words}", program.differs((0, bytes.fromhex("63 05 03 20")), "pack", *words.split())
 
 
-def tables(program):
-    """The rows of the tables of vectors/."""
-    rows = [("set", [] if row["ids"] == "-" else [*spelled_ids(row["ids"])], octets(row["bytes"])) for row in table("id_sets.tsv")]
-    rows += [(row["kind"], numbers(row["values"]), octets(row["bytes"])) for row in table("columns.tsv")]
-    lines = [f"row{number}: {description(*row[::2], row[1])}\n" for number, row in enumerate(rows)]
-    for number, (_, values, encoding) in enumerate(rows):
-        program.write(f"row{number}", encoding)
-        yield f"unpacking {encoding.hex()[:40]}", program.differs((0, binary_of(values)), "unpack", "--binary", f"row{number}")
-    yield "showing the rows", program.differs((0, "".join(lines).encode()), "show", *(f"row{number}" for number in range(len(rows))))
-
-
 def checking(program):
-    """What `check` says of refused and damaged files."""
+    """What `check` says of each refused row of the tables of vectors/."""
     rows = [row for name in ("refused_id_sets.tsv", "refused_columns.tsv") for row in table(name)]
-    for what, contents in ("refused rows", [octets(row["bytes"]) for row in rows]), ("damaged files", [*damaged()]):
-        names = [program.write(f"{what[0]}{number}", content) for number, content in enumerate(contents)]
-        wanted = [f"{name}: {finding(content)}" for name, content in zip(names, contents)]
-        done = subprocess.run([program.path, "check", *names], cwd=program.folder, capture_output=True, text=True, check=False)
-        yield f"the status for {what}", None if (done.returncode, done.stderr) == (1, "") else f"it is {done.returncode}: {done.stderr}"
-        for line, found in itertools.zip_longest(wanted, done.stdout.split("\n")[:-1]):
-            yield f"{what}: {line}", None if line == found else f"it says {found}"
-        wrong = sum(": fault " in line for line in wanted)
-        yield f"how many {what} have a fault", None if wrong > len(contents) / 2 else f"they are {wrong}"
-    for row in rows:
+    names = [program.write(f"row{number}", octets(row["bytes"])) for number, row in enumerate(rows)]
+    done = subprocess.run([program.path, "check", *names], cwd=program.folder, capture_output=True, text=True, check=False)
+    yield "the status for refused rows", None if (done.returncode, done.stderr) == (1, "") else f"it is {done.returncode}: {done.stderr}"
+    for name, row, found in itertools.zip_longest(names, rows, done.stdout.split("\n")[:-1]):
+        line = f"{name}: {finding(octets(row['bytes']))}"
+        yield f"refused rows: {line}", None if line == found else f"it says {found}"
         # A set that is refused as a column may be right.
-        right = row["fault"].startswith("BadVersion") or finding(octets(row["bytes"])).startswith(f"fault {row['number']}: ")
-        yield f"the fault {row['fault']} of {row['bytes'][:40]}", None if right else finding(octets(row["bytes"]))
+        right = row["fault"].startswith("BadVersion") or f": fault {row['number']}: " in line
+        yield f"the fault {row['fault']} of {row['bytes'][:40]}", None if right else line
 
 
 def asking(program):
@@ -308,58 +288,33 @@ def outputs(program):
     os.umask(mask)
 
 
-def slowly(program, *words, given=b"", pieces=1):
-    """What a terminal shows for messages while a program gets its input in pieces, each half a second late, and gives its output to a reader
-    that waits as long."""
-    terminal = Terminal()
-    how = {"stdin": subprocess.PIPE, "stdout": subprocess.PIPE, "stderr": terminal.theirs, "cwd": program.folder}
-    with subprocess.Popen([program.path, *words], **how) as ran:
-        for number in range(pieces):
-            time.sleep(0.5)
-            ran.stdin.write(given[number * len(given) // pieces : (number + 1) * len(given) // pieces])
-            ran.stdin.flush()
-        time.sleep(0.5)
-        ran.stdin.close()
-        printed = ran.stdout.read()
-    return ran.returncode, printed, terminal.end()
-
-
 def on_terminal(program):
-    """What a terminal shows while work takes long, and that no bytes are written there."""
+    """No bytes are written to a terminal, and short work shows no bar there."""
     try:
-        terminal = Terminal()
+        ours, theirs = os.openpty()
     except OSError as error:
-        leave_out("the bar of numbers", f"since there is no terminal: {error}")
+        leave_out("what numbers shows on a terminal", f"since there is no terminal: {error}")
         return
     refusal = "numbers: standard output is a terminal, and bytes would be written: add > FILE\n"
     for call in "pack", "unpack --binary set", "and set set":
-        yield f"{call} to a terminal", program.differs((2, None, refusal), *call.split(), given=b"7", stdout=terminal.theirs)
+        yield f"{call} to a terminal", program.differs((2, None, refusal), *call.split(), given=b"7", stdout=theirs)
     for call in "unpack set", "and --text set set", "or --count set set":
-        yield f"{call} to a terminal", program.differs((0, None), *call.split(), stdout=terminal.theirs)
-    values = SAMPLES["many"] * 10
-    name = program.write("many", packed("plain", values))
-    yield "short work", program.differs((0, text_of(values), ""), "unpack", name, stderr=terminal.theirs)
-    shown = terminal.end()
+        yield f"{call} to a terminal", program.differs((0, None), *call.split(), stdout=theirs)
+    name = program.write("many", packed("plain", SAMPLES["many"]))
+    yield "short work", program.differs((0, text_of(SAMPLES["many"]), ""), "unpack", name, stderr=theirs)
+    shown = os.read(ours, 1000)
     # A terminal ends lines with both signs.
     yield "what a terminal shows", None if shown == b"1\r\n3\r\n1\r\n3\r\n2\r\n" else f"it shows {shown}"
-    status, printed, shown = slowly(program, "unpack", name)
-    bars = [(len(bar), int(part)) for bar, part in re.findall(rb"\r\[(#*) *\] +(\d+) %", shown)]
-    right = (status, printed) == (0, text_of(values)) and shown.endswith(b"\r\x1b[K")
-    right = right and bars and all(length == part * 40 // 100 for length, part in bars) and bars == sorted(bars) and bars[-1][1] == 100
-    yield "a bar while numbers are written", None if right else f"it ends with {status}, and shows {shown}"
-    status, printed, shown = slowly(program, "pack", "--binary", given=binary_of(values), pieces=4)
-    right = (status, printed) == (0, packed("plain", values)) and re.search(rb"\r\d+ KiB\r", shown) and shown.endswith(b"\r\x1b[K")
-    yield "how much was read of a pipe", None if right else f"it ends with {status}, and shows {shown}"
+    os.close(ours)
+    os.close(theirs)
 
 
 def checks():
-    lines = [source(os.path.relpath(path, ROOT)).count("\n") for path in glob.glob(f"{ROOT}/{FOLDER}/src/*.rs")]
-    yield "the lines of the program", None if sum(lines) <= MOST_LINES and max(lines) < MOST_LINES_OF_FILE else f"they are {lines}"
     with tempfile.TemporaryDirectory(prefix="numbers-") as folder:
         program = Program(folder)
         yield from of_page(program)
         if os.path.exists(program.path):
-            for part in helping, packing, texts, tables, checking, asking, combining, wrong, refused, outputs, on_terminal:
+            for part in helping, packing, texts, checking, asking, combining, wrong, refused, outputs, on_terminal:
                 yield from part(program)
 
 

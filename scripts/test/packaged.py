@@ -5,9 +5,13 @@ in scripts/test/rust.py. Nothing is fetched: the folder of cargo is empty. Each 
 linked with the flag of docs/C.md, by which the linker leaves out what is not called. The last line is 'N passed, M failed'; a part that is left out
 for want of a tool is named.
 """
+import contextlib
 import ctypes
+import io
 import os
 import re
+import shutil
+import subprocess
 import sys
 import tarfile
 import tempfile
@@ -21,6 +25,7 @@ import c
 import choosing
 import install
 import python
+import release
 import rust
 
 EXAMPLES = [it for it in c.PROGRAMS if it.startswith("examples/")]
@@ -114,6 +119,21 @@ def by_cmake(prefix, compiler):
                     yield f"{program} {name} by CMake", None if ran == c.PROGRAMS[program] else f"it printed {ran}"
 
 
+def by_pkg_config(prefix, compiler, programs=()):
+    """What pkg-config tells of an installation, and programs that ask it: each check as a name and what is wrong, or None."""
+    if missing("pkg-config"):
+        leave_out("programs that ask pkg-config", "since there is no pkg-config")
+        return
+    env = dict(os.environ, PKG_CONFIG_PATH=f"{prefix}/lib/pkgconfig")
+    for asked, wanted in {"--modversion": version(), "--variable=compiler": compiler}.items():
+        found = run("pkg-config", asked, "bitpacking", env=env).stdout
+        yield f"pkg-config {asked}", None if found == f"{wanted}\n" else f"it is {found}"
+    words = run("pkg-config", "--cflags", "--libs", "bitpacking", env=env).stdout.split()
+    for program in programs:
+        why = built_and_run(["cc", "-std=c99", f"{ROOT}/{program}", *words], program, env=dict(os.environ, LD_LIBRARY_PATH=f"{prefix}/lib"))
+        yield f"{program} by pkg-config", why
+
+
 def half_way(prefix):
     """What is wrong if an installation whose last file cannot be written leaves files, or None."""
     with open(f"{prefix}/share", "w", encoding="ascii") as file:
@@ -123,6 +143,13 @@ def half_way(prefix):
     left = sorted(listed(prefix).keys() - before.keys())
     os.remove(f"{prefix}/share")
     return None if done.returncode == 1 and not left else f"it left {left}, and printed {done.stdout}"
+
+
+def without_a_library(prefix):
+    """What is wrong if an installation whose shared library cannot be linked changes what is installed, or None."""
+    before = listed(prefix)
+    done = by_script(prefix, env=dict(os.environ, CC="false"))
+    return None if done.returncode == 1 and listed(prefix) == before else f"it changed files, and printed {done.stdout}"
 
 
 def by_relative_name(folder):
@@ -190,23 +217,13 @@ def installed(folder):
     said = f"installed version {version()} under {prefix}: {install.HEADER} {install.STATIC} "
     yield "install.py", None if done.returncode == 0 and done.stdout.startswith(said) else done.stdout
     yield from shared_library(f"{prefix}/{install.LINK}")
-    if missing("pkg-config"):
-        leave_out("programs that ask pkg-config", "since there is no pkg-config")
-    else:
-        env = dict(os.environ, PKG_CONFIG_PATH=f"{prefix}/lib/pkgconfig")
-        asked = run("pkg-config", "--modversion", "bitpacking", env=env)
-        yield "the version that pkg-config tells", None if asked.stdout == f"{version()}\n" else f"it is {asked.stdout}"
-        asked = run("pkg-config", "--variable=compiler", "bitpacking", env=env)
-        yield "the compiler that pkg-config tells", None if asked.stdout == "rattle\n" else f"it is {asked.stdout}"
-        asked = run("pkg-config", "--cflags", "--libs", "bitpacking", env=env)
-        for program in EXAMPLES:
-            command = ["cc", "-std=c99", f"{ROOT}/{program}", *asked.stdout.split()]
-            yield f"{program} by pkg-config", built_and_run(command, program, env=dict(os.environ, LD_LIBRARY_PATH=f"{prefix}/lib"))
+    yield from by_pkg_config(prefix, "rattle", EXAMPLES)
     for program in EXAMPLES:
         command = ["cc", "-std=c99", f"-I{prefix}/include", f"{ROOT}/{program}", f"{prefix}/{install.STATIC}"]
         yield f"{program} over the installed archive", built_and_run(command, program)
         why = built_and_run(command, program, c.miscounted(c.PROGRAMS[program]))
         yield f"another output of {program}", is_refused(why, c.PROGRAMS[program])
+    yield "an installation over it without a linker", without_a_library(prefix)
     yield from by_cmake(prefix, "rattle")
     yield from levels_of(prefix)
     removed = by_script(prefix, "--remove")
@@ -251,6 +268,69 @@ def are_same(folder):
     return bytes_of(one) == bytes_of(two)
 
 
+def other_modes(top):
+    """The files of a bundle that can be run there and not in the repository, or there alone."""
+    for path in listed(top):
+        name = os.path.relpath(path, top)
+        if os.path.isfile(path) and os.access(path, os.X_OK) != os.access(f"{ROOT}/{name}", os.X_OK):
+            yield name
+
+
+def no_sources(top):
+    """What is wrong if the script that builds archives does not say that a bundle has none of their sources, or None."""
+    done = run(sys.executable, f"{top}/scripts/build/archives.py", folder=top)
+    return None if done.returncode == 2 and done.stdout.startswith("archives.py: this bundle has the archives") else done.stdout
+
+
+def of_a_commit(folder):
+    """Bundles are of files of a commit: each check as a name and what is wrong, or None. The folder is a repository with the scripts alone."""
+    shutil.copytree(f"{ROOT}/scripts", f"{folder}/scripts", ignore=shutil.ignore_patterns("__pycache__", "edits"))
+    rust.written(folder, {"crates.txt": "", "CHANGELOG.md": source("CHANGELOG.md"), "examples/it.c": "", "postgres/idset--1.0.sql": ""})
+    git = ["git", "-c", "user.name=it", "-c", "user.email=it", "-c", "commit.gpgsign=false"]
+    for words in ["init", "-q"], ["add", "--all"], ["commit", "-q", "-m", "it"]:
+        subprocess.run([*git, *words], cwd=folder, check=True)
+    asked = (
+        "import sys; sys.path[:0] = ['scripts', 'scripts/build']; import common, bundle; print(bundle.changed(), bundle.paths('x86_64'))"
+    )
+    ours = ["CHANGELOG.md", "examples/it.c", "postgres/idset--1.0.sql"]
+
+    def said():
+        return run(sys.executable, "-B", "-c", asked, folder=folder).stdout
+
+    has = sorted([*ours, *(it for it in bundle.FILES if it.startswith("scripts/"))])
+    yield "the files of a commit", None if said() == f"[] {has}\n" else said()
+    rust.written(folder, {"examples/left.c": "", "postgres/idset--0.9.sql": ""})
+    wanted = f"['?? examples/left.c', '?? postgres/idset--0.9.sql'] {has}\n"
+    yield "files that git does not track", None if said() == wanted else said()
+    for script in "bundle.py", "release.py":
+        env = dict(os.environ, PYTHONDONTWRITEBYTECODE="1")
+        done = run(sys.executable, f"{folder}/scripts/build/{script}", *[folder] * (script == "bundle.py"), folder=folder, env=env)
+        right = done.returncode == 1 and "this is not in the last commit: ?? examples/left.c" in done.stdout
+        yield f"{script} with files that git does not track", None if right else done.stdout
+    shutil.rmtree(f"{folder}/examples")
+    yield "a file that is not there", None if said().startswith("[' D examples/it.c', ") else said()
+
+
+def releases(folder):
+    """A release stays if the next one fails, or cannot be written: each check as a name and what is wrong, or None."""
+    release.OUT = f"{folder}/release"
+    rust.written(folder, {"release/it": "the first", "next/it": "the next", "none/it": "none"})
+    os.symlink("nothing", f"{folder}/none/link")
+    wrong, right = [("it", "it is wrong")], [("it", None)]
+    for what, new, checks, is_there in [
+        ("a release that fails", "next", wrong, "the first"),
+        ("a release that cannot be written", "none", right, "the first"),
+        ("a release", "next", right, "the next"),
+    ]:
+        with contextlib.redirect_stdout(io.StringIO()), contextlib.suppress(shutil.Error):
+            release.released(f"{folder}/{new}", checks)
+        found = {os.path.relpath(path, release.OUT): it for path, it in listed(release.OUT).items()}
+        yield what, None if found == {"it": is_there.encode()} else f"{found} is there"
+    rust.written(folder, {"next/it.a": f"compiled in {ROOT}/crates"})
+    found = list(release.named_folders(f"{folder}/next"))
+    yield "an archive that names a folder", None if found == [f"it.a names {ROOT}"] else f"it finds {found}"
+
+
 def dead_links(top):
     """The files that pages of a bundle link and that it lacks."""
     for page in [path for path in listed(top) if path.endswith(".md")]:
@@ -278,6 +358,8 @@ def unpacked(folder):
     wanted = {archives.ALL, *(f"{it}/{archives.ALL}" for it in archives.LEVELS.values())}
     yield "the archives of the bundle", None if found == wanted else f"they differ in {sorted(found ^ wanted)}"
     yield "the links of the bundle's pages", ", ".join(dead_links(top)) or None
+    yield "the modes of the bundle", ", ".join(other_modes(top)) or None
+    yield "building archives in the bundle", no_sources(top)
     yield "an installation from the bundle", installed_from(top, folder)
     for program in EXAMPLES:
         command = ["cc", "-std=c99", f"-I{top}/include", f"{top}/{program}", f"{top}/rust/out/{archives.ALL}"]
@@ -304,7 +386,7 @@ def unpacked(folder):
 
 
 def checks():
-    for part in [installed, unpacked, small]:
+    for part in [installed, unpacked, small, of_a_commit, releases]:
         with tempfile.TemporaryDirectory(prefix="packaged-") as folder:
             yield from part(folder)
 

@@ -1,17 +1,12 @@
-"""What happens to sets in a PostgreSQL server that is stopped, killed, damaged, updated, dumped, or the first of two: checks of
-scripts/test/postgres.py."""
+"""What happens to sets in a PostgreSQL server that is stopped, damaged, updated, dumped, or the first of two: checks of scripts/test/postgres.py."""
 
 import os
 import random
 import re
-import subprocess
-import time
 
 import pg_server
 from common import run
 
-# The sets of the trial with kill have all numbers of one remainder: a row of each takes some ten pages.
-REMAINDERS, LENGTH, KILLS, CHANGES = 7, 100_000, 3, 20_000
 # Sets on disk, and in how many of them a bit is flipped. Their numbers are far apart, so that most flips can be seen.
 STORED, FLIPPED = 120, 60
 ANSWERS = """CREATE FUNCTION answers() RETURNS TABLE (n int, said text) LANGUAGE plpgsql AS $$
@@ -123,48 +118,6 @@ def on_disk(extension, number, checksums):
         yield name, f"{more} other answers for {count} flipped" if more > count else None
 
 
-def changed_until_killed(server, start, seconds):
-    """Has a client change a set again and again, and kills the server after some seconds. Returns the number of the last change that the
-    client was told of, and whether it lost the server while changes were left."""
-    path = f"{server.socket}/changes.sql"
-    with open(path, "w", encoding="ascii") as file:
-        for n in range(start, start + CHANGES):
-            file.write(f"UPDATE changed SET n = {n}, ids = (SELECT ids FROM sets WHERE k = {n % REMAINDERS}) RETURNING n;\n")
-    command = [f"{pg_server.config('bindir')}/psql", "-X", "-q", "-A", "-t", "-v", "ON_ERROR_STOP=1", "-f", path]
-    with subprocess.Popen(command, stdout=subprocess.PIPE, stderr=subprocess.STDOUT, text=True, env=server.known) as client:
-        said = [client.stdout.readline()]
-        time.sleep(seconds)
-        server.kill()
-        said += client.stdout.readlines()
-    told = [int(it) for it in said if it.strip().isdigit()]
-    return told[-1] if told else None, client.returncode != 0 and len(told) < CHANGES
-
-
-def killed(extension):
-    """A server that is killed in the middle of updates has the set that a client was told of last after it starts again, or the next one."""
-    server, chance, start = extension.server(4).start(), random.Random(4), 1
-    server.rows(
-        f"CREATE EXTENSION idset; CREATE TABLE sets AS SELECT k, idset(a) AS ids, a FROM generate_series(0, {REMAINDERS - 1}) k,"
-        f" LATERAL (SELECT ARRAY(SELECT i * {REMAINDERS} + k FROM generate_series(1, {LENGTH}) i) AS a) q;"
-        " CREATE TABLE changed AS SELECT 0 AS n, ids FROM sets WHERE k = 0"
-    )
-    for number in range(1, KILLS + 1):
-        told, lost = changed_until_killed(server, start, chance.uniform(0.05, 0.7))
-        server.start()
-        found = server.rows(
-            f"SELECT n, k, n % {REMAINDERS} = k, (SELECT bool_and(ids::int4[] = a) FROM sets)"
-            " FROM changed c JOIN sets l ON c.ids::int4[] = l.a"
-        )
-        n = int(found.split("|")[0]) if found else None
-        right = lost and told is not None and n in (told, told + 1) and found.endswith("|t|t")
-        yield f"killed in the middle of updates, {number}", None if right else f"told of {told}, then lost: {lost}, and found {found}"
-        start = (n or 0) + 1
-    server.stop()
-    with open(server.log, encoding="utf-8", errors="replace") as log:
-        starts = log.read().count("database system was not properly shut down")
-    yield "started again after each kill", None if starts == KILLS else f"{starts} of {KILLS}"
-
-
 def asked(server, sign):
     """Whether the two words' documents are those of the plain rows, or what psql says."""
     rows, status = server.psql(QUERY.format(sign))
@@ -203,6 +156,5 @@ def two_servers(extension, first):
 def checks(extension, first):
     yield from dumped(extension, first)
     yield from two_servers(extension, first)
-    yield from killed(extension)
     yield from on_disk(extension, 6, checksums=True)
     yield from on_disk(extension, 7, checksums=False)

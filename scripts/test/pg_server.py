@@ -2,7 +2,6 @@
 root, and it runs as a user that is not root, listens on a socket in the folder, and opens no port. It is Debian's server of version 15, or the
 one that PG_CONFIG names."""
 
-import glob
 import os
 import pwd
 import shutil
@@ -131,23 +130,6 @@ class Server:
         if self.process and self.process.poll() is None:
             self.process.send_signal(signal.SIGINT)
             self.process.wait(PATIENCE)
-
-    def kill(self):
-        """Kills the server and each process that it started, at once."""
-        children = []
-        for path in glob.glob(f"/proc/{self.process.pid}/task/*/children"):
-            with open(path, encoding="ascii") as file:
-                children += map(int, file.read().split())
-        for process in [self.process.pid, *children]:
-            try:
-                os.kill(process, signal.SIGKILL)
-            except ProcessLookupError:
-                pass
-        self.process.wait(PATIENCE)
-        for _ in range(10 * PATIENCE):
-            if not any(os.path.exists(f"/proc/{child}") for child in children):
-                return
-            time.sleep(0.1)
 
     def psql(self, sql, database="postgres", *words):
         """What psql prints for some SQL, with its errors, and its status."""

@@ -6,7 +6,6 @@ starts servers as a user that is not root, which listen on sockets alone, and
 - reads the tables of vectors/, makes the longest values, and runs the examples of the page;
 - dumps and restores a table, updates the extension to a made-up next version, and reads binary copies, sound and damaged;
 - flips bits in the files of a stopped server, with data checksums and without;
-- kills a server in the middle of updates, and looks at the set after it was started again;
 - asks two servers, which have the partitions of one table, and stops one of them;
 - measures the memory and the processor's time of some statements;
 - makes wrong changes of the extension, with each of which a file of postgres/sql/ or a measurement has to fail.
@@ -22,14 +21,13 @@ import sys
 import tempfile
 
 sys.path.insert(1, f"{sys.path[0]}/..")
-from common import ROOT, ended, leave_out, report, run, source
+from common import ended, leave_out, report, run, source
 
 import archives
 import bundle
 import install
 import pg_changes
 import pg_faults
-import pg_hash
 import pg_memory
 import pg_server
 import rows
@@ -59,10 +57,10 @@ char *dcgettext(const char *domain, const char *text, int kind) { return (char *
 class Extension:
     """The extension built in a folder, for servers that are started there."""
 
-    def __init__(self, folder):
+    def __init__(self, folder, archive=f"{archives.OUT}/{archives.ALL}"):
         self.folder, self.prefix, self.sources, self.servers = folder, f"{folder}/prefix", f"{folder}/postgres", []
         os.chmod(folder, 0o755)
-        install.install(self.prefix, f"{archives.OUT}/{archives.ALL}")
+        install.install(self.prefix, archive)
         self.programs = Programs(f"{folder}/programs")
         os.mkdir(f"{folder}/servers")
         pg_server.handed_over(f"{folder}/servers")
@@ -134,20 +132,13 @@ def compared(what, server, before, asked):
 
 
 def vectors(server):
-    """The tables of vectors/: sets with their ids, and their hash, and refused bytes with the text of the fault."""
-    asked, hashes = [], []
+    """The tables of vectors/: sets with their ids, and refused bytes with the text of the fault."""
+    asked = []
     for row in rows.table("id_sets.tsv"):
         data, ids = rows.octets(row["bytes"]), "{" + ",".join(map(str, rows.spelled_ids(row["ids"]))) + "}"
         value = f"'\\x{data.hex()}'::bytea::idset"
         asked.append((f"SELECT {value}::int8[] = '{ids}' AND '{ids}'::idset::bytea = '\\x{data.hex()}'", "t"))
-        hashes.append(
-            (
-                f"SELECT idset_hash(v), idset_hash_extended(v, 77) FROM (SELECT {value}) q(v)",
-                f"{pg_hash.hashed(data)}|{pg_hash.extended(data, 77)}",
-            )
-        )
     yield from compared("the sets of vectors/", server, "", asked)
-    yield from compared("their hashes", server, "", hashes)
     texts = fault_texts()
     refused = [
         (rows.octets(row["bytes"]), f"22P03 invalid idset: {texts[-20 - int(row['number'])]}") for row in rows.table("refused_id_sets.tsv")

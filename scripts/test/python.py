@@ -1,13 +1,14 @@
 #!/usr/bin/env python3
 """Builds the package of python/ as its README says, from a folder that scripts/build/install.py wrote. It looks at the wheel, installs it in a
-new virtual environment without an index, and runs there the tests of python/tests/ and the examples of the pages. Then it builds and
-installs the package in one step with the address sanitizer, and runs the tests once more. Last, each of some wrong changes of the package has
-to fail a test.
+new virtual environment without an index, and runs there the tests of python/tests/ and the examples of the pages, whose types `mypy --strict`
+has to accept. Then it builds and installs the package in one step with the address sanitizer, and runs the tests once more. Last, each of some
+wrong changes of the package has to fail a test.
 
 It takes the first Python, of the one that runs it and /usr/bin/python3, that has all it needs: 3.11 or later with its header files, numpy,
 hypothesis, pytest, setuptools, wheel, build and pip. Without one it is left out, and names what is missing. The archives are those that
 scripts/build/archives.py wrote, which is called if they are not there. The last line is 'N passed, M failed'.
 """
+import doctest
 import glob
 import os
 import re
@@ -18,7 +19,7 @@ import xml.etree.ElementTree as xml
 import zipfile
 
 sys.path.insert(1, f"{sys.path[0]}/..")
-from common import ROOT, ended, leave_out, report, run, version
+from common import ROOT, ended, leave_out, missing, report, run, source, version
 import archives
 import c
 import install
@@ -27,21 +28,7 @@ PARTS = "the Python package"
 MODULES = ["numpy", "hypothesis", "pytest", "setuptools", "wheel", "build", "pip", "ensurepip"]
 PAGES = ["README.md", "docs/PYTHON.md", "python/README.md", "python/COLUMN.md"]
 # What a wheel has, below the folder of the package.
-FILES = [
-    "__init__",
-    "chain",
-    "column",
-    "column_values",
-    "combining",
-    "errors",
-    "faults",
-    "id_set",
-    "query",
-    "set_faults",
-    "values",
-    "waiting",
-]
-WHEEL = {*(f"{it}.py" for it in FILES), "_core.pyi", "py.typed", "_core.abi3.so"}
+WHEEL = {*(it for it in os.listdir(f"{ROOT}/python/src/fimulowen") if it.endswith((".py", ".pyi", ".typed"))), "_core.abi3.so"}
 # Wrong changes: a file of the package, lines in it and other lines, and the tests of which one has to fail. A file of C is compiled again.
 WRONG = [
     ("values.py", "found[found < 0] += length", "found[found < 0] += length - 1", "test_id_set.py::test_reading"),
@@ -98,6 +85,12 @@ WRONG = [
     ("column.c", "    PyMem_Free(((Column *)self)->chunks);\n", "", "test_column_calls.py::test_constant"),
 ]
 PATIENCE = 600
+# Programs that mypy has to refuse, and the kind of error.
+MISTYPED = {
+    'import fimulowen\nfimulowen.chain.pack([1], kind="strictly")\n': "[arg-type]",
+    "import fimulowen\nfimulowen.Column([1]).unpack().append(2)\n": "[attr-defined]",
+    "import fimulowen\nfimulowen.IdSet([1]) & 1\n": "[operator]",
+}
 
 
 def lacking(python, modules):
@@ -179,6 +172,26 @@ def wheel_of(package):
     yield "installing the wheel", package.call(f"{package.room}/bin/python", "-m", "pip", "install", "--no-deps", found[0])
 
 
+def typed(package):
+    """Whether mypy accepts the examples of each page, and refuses wrong programs: each as a name and what is wrong, or None."""
+    if missing("mypy"):
+        leave_out("the types of the examples in the pages", "since there is no mypy")
+        return
+
+    def said(program):
+        path = f"{package.folder}/typed.py"
+        with open(path, "w", encoding="utf-8") as file:
+            file.write(program)
+        return run("mypy", "--strict", f"--python-executable={package.room}/bin/python", path, folder=package.folder)
+
+    for page in PAGES:
+        done = said("".join(it.source for it in doctest.DocTestParser().get_examples(source(page))))
+        yield f"the types of {page}", None if done.returncode == 0 else done.stdout[-2000:]
+    for program, error in MISTYPED.items():
+        done = said(program)
+        yield f"a wrong type: {program}", None if error in done.stdout and "Found 1 error in 1 file" in done.stdout else done.stdout[-2000:]
+
+
 def sanitized(package):
     """Builds and installs the package in one step, with the address sanitizer, and runs the tests with it."""
     if not c.has_sanitizers():
@@ -196,7 +209,9 @@ def sanitized(package):
         f"--target={to}",
         ".",
     ]
-    yield "building and installing in one step", package.call(*one_step, CFLAGS=flags)
+    # A relative name of the library begins in the folder of the shell.
+    near = {"BITPACKING": os.path.relpath(package.prefix, package.folder), "PWD": package.folder}
+    yield "building and installing in one step", package.call(*one_step, CFLAGS=flags, **near)
     library = run("cc", "-print-file-name=libasan.so").stdout.strip()
     known = {"PYTHONPATH": to, "LD_PRELOAD": library, "PYTHONMALLOC": "malloc"}
     known |= {"ASAN_OPTIONS": "detect_leaks=0:exitcode=99", "UBSAN_OPTIONS": "print_stacktrace=1"}
@@ -261,6 +276,7 @@ def checks(python):
         examples = ["--doctest-glob=*.md", *pages, "--doctest-modules", "--pyargs", "fimulowen"]
         yield from package.tested("of the wheel", "tests")
         yield from package.tested("in the pages", *examples)
+        yield from typed(package)
         yield from sanitized(package)
         yield from wrong_changes(package)
 

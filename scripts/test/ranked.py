@@ -1,6 +1,6 @@
 """What search.py asks of the ranking of examples/search/: thousands of random queries over paragraphs with many ties have to get the best
 documents that this model finds, which reads no index, by blocks and by a scan, with the same scores to the last bit. Then wrong changes of
-the programs are tried, each of which has to give another answer.
+the program in C are tried, each of which has to give another answer.
 """
 import collections
 import concurrent.futures
@@ -11,7 +11,7 @@ import random
 import re
 import shutil
 
-from common import ROOT, run
+from common import ROOT, run, source
 import archives
 import c
 
@@ -25,56 +25,21 @@ WORDS = {"the": (2, 9), "of": (3, 3), "sea": (9, 4), "ship": (20, 60), "moon": (
 # that their scores are equal.
 TIED = {"ant": range(2001, 3000, 3), "bee": range(1, 1000, 3)}
 ALONE = 40
-# Wrong changes: what is wrong, and what is other in best.c, and in best.rs.
+# Wrong changes of best.c: what is wrong, lines in it and other lines. The program in Rust gets the same queries.
 WRONG = [
-    (
-        "a block with the bound of the last score and lower documents is passed",
-        ("block > 0 ? t->lasts[block - 1] + 1 : 0))", "UINT32_MAX))"),
-        ("self.beats(score, first)", "self.beats(score, u32::MAX)"),
-    ),
+    ("a block with the bound of the last score and lower documents is passed", "block > 0 ? t->lasts[block - 1] + 1 : 0))", "UINT32_MAX))"),
     (
         "a bound is that of another block",
-        ("bitpacking_column_range(blocks, whole, t.greatest, whole);", "bitpacking_column_range(counts, 0, t.greatest, whole);"),
-        (
-            "lasts.split_off(documents.len() / BLOCK);",
-            "lasts.split_off(documents.len() / BLOCK).into_iter().map(|_| 1).collect::<Vec<_>>();",
-        ),
+        "bitpacking_column_range(blocks, whole, t.greatest, whole);",
+        "bitpacking_column_range(counts, 0, t.greatest, whole);",
     ),
-    (
-        "the last document of a block is looked up in the next one",
-        ("t->lasts[t->block] < document", "t->lasts[t->block] <= document"),
-        ("|&last| last < document", "|&last| last <= document"),
-    ),
-    (
-        "of equal scores the first that comes is better",
-        ("before.score == score && before.document < document", "before.score == score"),
-        ("its == score && before < document);", "its == score);"),
-    ),
-    (
-        "the last score counts before all places are taken",
-        ("r->len < r->room)\n        return 1", "r->len == 0)\n        return 1"),
-        ("self.best.len() < self.room ||", "self.best.is_empty() ||"),
-    ),
-    (
-        "a score is added up in another order",
-        ("score += r->parts[i]", "score += r->parts[r->terms.items[i].place]"),
-        ("self.parts.iter().fold(0.0, |sum, part| sum + part)", "self.terms.iter().fold(0.0, |sum, term| sum + self.parts[term.place])"),
-    ),
-    (
-        "a document that was added comes again",
-        ("if (r->best[i].document == document)", "if (0 && r->best[i].document == document)"),
-        (" && self.best.iter().all(|&(_, its)| its != document)", ""),
-    ),
-    (
-        "the bound of a rest is that of nothing",
-        ("t.greatest[whole] = greatest_of", "t.greatest[whole] = 0 * greatest_of"),
-        ("greatest.extend(rest[..len].iter().max())", "greatest.push(0)"),
-    ),
-    (
-        "the first block that is looked up is taken for the others",
-        ("if (t->counted != t->block)", "if (t->counted == SIZE_MAX)"),
-        ("let start = self.block * BLOCK;", "let start = 0;"),
-    ),
+    ("the last document of a block is looked up in the next one", "t->lasts[t->block] < document", "t->lasts[t->block] <= document"),
+    ("of equal scores the first that comes is better", "before.score == score && before.document < document", "before.score == score"),
+    ("the last score counts before all places are taken", "r->len < r->room)\n        return 1", "r->len == 0)\n        return 1"),
+    ("a score is added up in another order", "score += r->parts[i]", "score += r->parts[r->terms.items[i].place]"),
+    ("a document that was added comes again", "if (r->best[i].document == document)", "if (0 && r->best[i].document == document)"),
+    ("the bound of a rest is that of nothing", "t.greatest[whole] = greatest_of", "t.greatest[whole] = 0 * greatest_of"),
+    ("the first block that is looked up is taken for the others", "if (t->counted != t->block)", "if (t->counted == SIZE_MAX)"),
 ]
 
 
@@ -179,47 +144,17 @@ def asked_of(programs, made):
 
 
 def wrong_programs(programs):
-    """The programs with each of the wrong changes. Each as what is wrong, its name, and why it was not built, or None."""
-    folder = f"{programs.folder}/wrong"
-    shutil.copytree(f"{ROOT}/examples/search", folder, ignore=shutil.ignore_patterns("out", "target", "corpus"))
-    right = {}
-    for path in f"{folder}/best.c", f"{folder}/rust/src/best.rs":
-        with open(path, encoding="utf-8") as file:
-            right[path] = file.read()
-    # A package of another name is built beside the right one, over the same library.
-    for path, old, new in [
-        ("Cargo.toml", 'name = "search"', 'name = "wrong_search"'),
-        ("Cargo.toml", 'path = "../../.."', f'path = "{ROOT}"'),
-        ("src/main.rs", "mod best;", "#![allow(warnings)]\nmod best;"),
-    ]:
-        with open(f"{folder}/rust/{path}", encoding="utf-8") as file:
-            text = file.read().replace(old, new)
-        with open(f"{folder}/rust/{path}", "w", encoding="utf-8") as file:
-            file.write(text)
-    build = {
-        "c": [
-            *c.C99,
-            "-O1",
-            *(f"{folder}/{name}.c" for name in ("search", "index", "best")),
-            f"{archives.OUT}/{archives.ALL}",
-            "-lm",
-            "-o",
-            f"{folder}/search",
-        ],
-        "rust": ["cargo", "build", "--release", "--offline", "--manifest-path", f"{folder}/rust/Cargo.toml"],
-    }
-    for what, *changes in WRONG:
-        for (language, command), (path, text), (old, new) in zip(build.items(), right.items(), changes):
-            name = f"wrong {language}"
-            programs.paths[name] = f"{folder}/search" if language == "c" else f"{archives.OUT}/target/release/wrong_search"
-            with open(path, "w", encoding="utf-8") as file:
-                file.write(text.replace(old, new))
-            built = run(*command, env=dict(os.environ, CARGO_TARGET_DIR=f"{archives.OUT}/target", RUSTFLAGS="-D warnings"))
-            why = None if built.returncode == 0 and text.count(old) == 1 else f"it is not built: {built.stdout[-2000:]}"
-            yield what, name, why
-            with open(path, "w", encoding="utf-8") as file:
-                file.write(text)
-            del programs.paths[name]
+    """The program in C with each of the wrong changes. Each as what is wrong, its name, and why it was not built, or None."""
+    folder, right = f"{programs.folder}/wrong", source("examples/search/best.c")
+    shutil.copytree(f"{ROOT}/examples/search", folder, ignore=shutil.ignore_patterns("out", "rust", "corpus"))
+    programs.paths["wrong"] = f"{folder}/search"
+    sources = [f"{folder}/{name}.c" for name in ("search", "index", "best")]
+    for what, old, new in WRONG:
+        with open(sources[2], "w", encoding="utf-8") as file:
+            file.write(right.replace(old, new))
+        built = run(*c.C99, "-O1", *sources, f"{archives.OUT}/{archives.ALL}", "-lm", "-o", f"{folder}/search")
+        yield what, "wrong", None if built.returncode == 0 and right.count(old) == 1 else f"it is not built: {built.stdout[-2000:]}"
+    del programs.paths["wrong"]
 
 
 def skipped(programs):
@@ -253,4 +188,4 @@ def checks(programs):
     for what, name, why in wrong_programs(programs):
         if not why and not any(fault(programs, name, [], one) for one in made[::-1]):
             why = "no answer is another"
-        yield f"{what}, in {name}", why
+        yield f"a wrong program: {what}", why

@@ -41,44 +41,10 @@ FILLING = ["column_reading", "column_searching", "column_appending", "set_combin
 # What a package has of the repository, beside its manifest.
 PACKED = ["LICENSE", "docs/RUST.md", "crates/*/src", "rust/src", "rust/translate/src", "rust/examples"]
 MADE = {"Cargo.toml", "Cargo.toml.orig", "Cargo.lock", ".cargo_vcs_info.json"}
-MANIFEST = '[package]\nname = "it"\nversion = "0.0.0"\nedition = "2024"\n\n[dependencies]\nbitpacking = {}\n'
+MANIFEST = '[package]\nname = "{}"\nversion = "0.0.0"\nedition = "2024"\n\n[dependencies]\n{}\n'
 # The most bytes that a program has more which packs a block, than one that prints a line.
 GROWS = 100_000
 PRINTS = 'fn main() {\n    println!("128 ids in {} bytes", std::env::args().count());\n}\n'
-# A program that gets the crate through another one, in one file for each: its path and its text.
-THROUGH_ANOTHER = {
-    "Cargo.toml": """[package]
-name = "through_another"
-version = "0.0.0"
-edition = "2021"
-
-[dependencies]
-another = {{ path = "another" }}
-
-[patch.crates-io]
-bitpacking = {{ path = "{crate}" }}
-""",
-    "src/main.rs": 'fn main() {{\n    println!("{{}} ids in {{}} bytes", another::BLOCK_LEN, another::size());\n}}\n',
-    "another/Cargo.toml": """[package]
-name = "another"
-version = "0.0.0"
-edition = "2021"
-
-[dependencies]
-bitpacking = {{ version = "0.9", default-features = false, features = ["bitpacker4x"] }}
-""",
-    "another/src/lib.rs": """use bitpacking::{{BitPacker, BitPacker4x}};
-
-pub const BLOCK_LEN: usize = BitPacker4x::BLOCK_LEN;
-
-pub fn size() -> usize {{
-    let ids: Vec<u32> = (0..BLOCK_LEN as u32).map(|k| 3 * k).collect();
-    let mut bytes = [0; 4 * BLOCK_LEN];
-    let packer = BitPacker4x::new();
-    packer.compress_sorted(0, &ids, &mut bytes, packer.num_bits_sorted(0, &ids))
-}}
-""",
-}
 
 
 @functools.cache
@@ -202,14 +168,18 @@ def depends(folder, **variables):
 
 def program(folder, dependency, more=""):
     """Writes a package with PROGRAM over this crate."""
-    written(folder, {"Cargo.toml": MANIFEST.format(dependency) + more, "src/main.rs": source(f"rust/examples/{PROGRAM}.rs")})
+    manifest = MANIFEST.format("it", f"bitpacking = {dependency}") + more
+    written(folder, {"Cargo.toml": manifest, "src/main.rs": source(f"rust/examples/{PROGRAM}.rs")})
 
 
 def through_another(folder, top):
-    """What is wrong with a program that gets the crate in a folder through another one, or None."""
-    written(folder, {path: text.format(crate=top) for path, text in THROUGH_ANOTHER.items()})
-    # Differences of 3 but for the first: two bits each, and so 2 * 16 bytes.
-    return ran(folder, "128 ids in 32 bytes\n")
+    """What is wrong with PROGRAM over the crate in a folder if it gets that through another one, or None."""
+    asked = 'bitpacking = { version = "0.9", default-features = false, features = ["bitpacker4x"] }'
+    manifest = MANIFEST.format("it", 'another = { path = "another" }') + f'[patch.crates-io]\nbitpacking = {{ path = "{top}" }}\n'
+    main = source(f"rust/examples/{PROGRAM}.rs").replace("bitpacking", "another")
+    written(folder, {"Cargo.toml": manifest, "src/main.rs": main})
+    written(f"{folder}/another", {"Cargo.toml": MANIFEST.format("another", asked), "src/lib.rs": "pub use bitpacking::*;\n"})
+    return ran(folder, EXAMPLES[PROGRAM])
 
 
 def vendored(folder):

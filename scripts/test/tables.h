@@ -65,7 +65,7 @@ static unsigned digit(char it)
 }
 
 /* The bytes of hexadecimal digits, or none of "-". `{ff00*16}` is these two bytes 16 times. */
-static size_t read_bytes(const char *digits, uint8_t *bytes)
+static inline size_t read_bytes(const char *digits, uint8_t *bytes)
 {
     size_t len = 0, start = 0;
 

@@ -18,9 +18,9 @@ sys.path.insert(1, f"{sys.path[0]}/..")
 from common import ROOT, ended, leave_out, left_out_without, missing, report, run
 import machines
 
-FOLDER, OUT, TARGET = f"{ROOT}/examples/web", f"{ROOT}/out/web", "wasm32-unknown-unknown"
+FOLDER, OUT = f"{ROOT}/examples/web", f"{ROOT}/out/web"
+MACHINE = machines.Machine("wasm32-unknown-unknown", ("-Ctarget-feature=+simd128",), "wasm-ld")
 Server = type("Server", (http.server.SimpleHTTPRequestHandler,), {"log_message": lambda *_: None})
-FLAGS = "-Dwarnings -Ctarget-feature=+simd128"
 # Reads pairs of lists of ids. Prints for each the bytes of both sets, their common ids, and what `open` returns without the last byte.
 CALLER = """
 import { readFileSync } from "node:fs";
@@ -42,18 +42,6 @@ console.log(JSON.stringify(JSON.parse(readFileSync(0, "utf8")).map(answer)));
 IDS, BYTES = [7, 9, 10, 300], [0x84, 7, 9, 1, 0, 0x84, 4]
 # Below 10,000,000 there are 3,333,334 multiples of 3, 2,000,000 of 5 and 666,667 of 15.
 COUNTS = {"Pack the first set": "3,333,334", "Open the second set": "2,000,000", "Intersect": "666,667"}
-
-
-def build():
-    """Builds web.wasm, and returns its path with why it failed, or None."""
-    built, more = f"{OUT}/target", ["--release", "--locked", "-j1"]
-    if machines.has_library(TARGET):
-        env = dict(os.environ, CARGO_TARGET_DIR=built, RUSTFLAGS=FLAGS)
-        done = run("cargo", "build", "--quiet", "--offline", "--target", TARGET, *more, folder=FOLDER, env=env)
-    else:
-        variables = {"RUSTFLAGS": FLAGS, "CARGO_TARGET_WASM32_UNKNOWN_UNKNOWN_LINKER": "wasm-ld"}
-        done = machines.from_source("build", "core,alloc,std,panic_abort", TARGET, FOLDER, built, *more, **variables)
-    return f"{built}/{TARGET}/release/web.wasm", done.stdout[-3000:] if done.returncode else None
 
 
 def in_node(wasm):
@@ -103,22 +91,26 @@ def in_browser(wasm):
 
 
 def checks():
-    wasm, why = build()
-    yield "build", why
-    yield from [] if why else in_node(wasm)
+    try:
+        wasm = f"{machines.built(MACHINE, FOLDER, f'{OUT}/target', '-j1')}/web.wasm"
+    except machines.fast.Failed as why:
+        yield "build", str(why)
+        return
+    yield from in_node(wasm)
     if missing("chromium"):
         leave_out("the page", "since there is no chromium")
-    elif not why:
+    else:
         yield from in_browser(wasm)
 
 
 def main():
     if left_out_without("examples/web", "cargo", "rustc", "node", "wasm-ld"):
         return 0
-    if machines.has_library(TARGET) or machines.web():
-        return report(checks())
-    leave_out("examples/web", f"since there is no library of Rust: rustup target add {TARGET}, or unpack {machines.PACKAGES}")
-    return ended(0, 0)
+    why = machines.lack(MACHINE)
+    if why:
+        leave_out("examples/web", why)
+        return ended(0, 0)
+    return report(checks())
 
 
 if __name__ == "__main__":

@@ -23,10 +23,23 @@ transitive a b c one two = (
       omega (arith, one.1 first, two.1 second),
 )
 
--- ---- one more document, which has a greater id
+-- one document comes before another that does not come before it
+flip : (x f : Scored) → (ComesBefore x f → ⊥) → (f.id ≡ x.id → ⊥) → ComesBefore f x
+flip x f no' other = elim (cases_lt f.score x.score) [
+  | inl less ↦ absurd (no' (omega (arith, less), λ e. absurd (omega (arith, e, less))))
+  | inr le ↦ (
+    le,
+    λ e. elim (cases_lt f.id x.id) [
+      | inl lt ↦ lt
+      | inr ge ↦ absurd (no' (omega (arith, e), λ e2. omega (arith, ge, other)))
+    ],
+  )
+]
 
-module _ (One Next : Scored → Type 0) (k : ℕ) (x : Scored) (old : List Scored) (best : AreBest One k old) (later : (d : Scored) → One d → d.id < x.id)
-    (at : ℕ) (place : IsPlaceFor x.score old at) where
+-- ---- one more document, which was not among them
+
+module _ (One Next : Scored → Type 0) (k : ℕ) (x : Scored) (old : List Scored) (best : AreBest One k old) (fresh : (d : Scored) → One d → d.id ≡ x.id → ⊥)
+    (at : ℕ) (place : IsPlaceFor x old at) where
   abbrev longer : List Scored
   longer = insert old at x
 
@@ -34,18 +47,15 @@ module _ (One Next : Scored → Type 0) (k : ℕ) (x : Scored) (old : List Score
   count = length-insert old at x place.within
 
   before_x : (i : ℕ) (d : Scored) → i < at → ComesBefore (get_or old i d) x
-  before_x i d lt = (place.before i d lt, λ e. later (get_or old i d) (best.each i d (omega (arith, place.within, lt))))
+  before_x i d lt = flip x (get_or old i d) (place.before i d lt) (fresh (get_or old i d) (best.each i d (omega (arith, place.within, lt))))
 
   after_x : (i : ℕ) (d : Scored) → at ≤ i → i < length old → ComesBefore x (get_or old i d)
-  after_x i d le lt =
-      let less : (get_or old i d).score < x.score =
-      elim (cases_lt at i) [
-        | inl above ↦ omega (arith, place.here d (omega arith), (best.ordered at i d above lt).0)
-        | inr here ↦
-            let same : i ≡ at = omega arith in
-            rw same (place.here d (omega arith))
-      ] in
-      (omega arith, λ e. absurd (omega arith))
+  after_x i d le lt = elim (cases_lt at i) [
+    | inl above ↦ transitive x (get_or old at d) (get_or old i d) (place.here d (omega arith)) (best.ordered at i d above lt)
+    | inr here ↦
+        let same : i ≡ at = omega arith in
+        rw same (place.here d (omega arith))
+  ]
 
   -- where a document of the longer list was
   data Was (i : ℕ) (d : Scored) : Type 0 where
@@ -144,16 +154,15 @@ module _ (One Next : Scored → Type 0) (k : ℕ) (x : Scored) (old : List Score
     }
 
 pub best_kept : (One Next : Scored → Type 0) (k : ℕ) (x : Scored) (old new : List Scored) → AreBest One k old → IsKept k x old new
-    → ((d : Scored) → One d → d.id < x.id) → ((d : Scored) → One d → Next d) → Next x → ((d : Scored) → Next d → One d ⊎ (d ≡ x)) → AreBest Next k new
-best_kept One Next k x old new best kept later keeps is splits =
-    best_placed One Next k x old best later kept.at kept.place keeps is splits new kept.count kept.each
+    → ((d : Scored) → One d → d.id ≡ x.id → ⊥) → ((d : Scored) → One d → Next d) → Next x → ((d : Scored) → Next d → One d ⊎ (d ≡ x)) → AreBest Next k new
+best_kept One Next k x old new best kept fresh keeps is splits =
+    best_placed One Next k x old best fresh kept.at kept.place keeps is splits new kept.count kept.each
 
--- ---- others, which have greater ids and at most a score that is too low
+-- ---- others, which come after one that comes after all
 
-pub best_skipped : (One Next : Scored → Type 0) (k low bound : ℕ) (found : List Scored) → AreBest One k found → IsFull k bound found
-    → ((d : Scored) → One d → d.id < low) → ((d : Scored) → One d → Next d)
-    → ((d : Scored) → Next d → One d ⊎ ((low ≤ d.id) × (d.score ≤ bound))) → AreBest Next k found
-best_skipped One Next k low bound found best full lower keeps splits = record {
+pub best_skipped : (One Next : Scored → Type 0) (k : ℕ) (x : Scored) (found : List Scored) → AreBest One k found → IsFull k x found
+    → ((d : Scored) → One d → Next d) → ((d : Scored) → Next d → One d ⊎ ((x.id ≤ d.id) × (d.score ≤ x.score))) → AreBest Next k found
+best_skipped One Next k x found best full keeps splits = record {
   few = best.few;
   each = λ i d lt. keeps _ (best.each i d lt);
   ordered = best.ordered;
@@ -163,19 +172,24 @@ best_skipped One Next k low bound found best full lower keeps splits = record {
   ];
 }
   where
-    enough : (i : ℕ) (d : Scored) → i < length found → bound ≤ (get_or found i d).score
-    enough i d lt = elim (cases_lt i (length found - 1)) [
-      | inl before ↦ omega (arith, (best.ordered i (length found - 1) d before (omega arith)).0, full.last d (omega (arith, best.few, lt)))
+    after_last : (other : Scored) → (x.id ≤ other.id) × (other.score ≤ x.score) → (d : Scored) → 0 < k
+        → ComesBefore (get_or found (length found - 1) d) other
+    after_last other rest d some =
+        let last = full.last d some in (
+          omega (arith, last.0, rest.1),
+          λ e. let same : x.score ≡ (get_or found (length found - 1) d).score = omega (arith, e, last.0, rest.1) in
+              omega (arith, last.1 same, rest.0),
+        )
+
+    comes : (other : Scored) → (x.id ≤ other.id) × (other.score ≤ x.score) → (i : ℕ) (d : Scored) → i < length found → ComesBefore (get_or found i d) other
+    comes other rest i d lt = elim (cases_lt i (length found - 1)) [
+      | inl before ↦
+          transitive (get_or found i d) (get_or found (length found - 1) d) other (best.ordered i (length found - 1) d before (omega arith))
+          (after_last other rest d (omega (arith, best.few, lt)))
       | inr end ↦
           let same : i ≡ length found - 1 = omega arith in
-          rw same (full.last d (omega (arith, best.few, lt)))
+          rw same (after_last other rest d (omega (arith, best.few, lt)))
     ]
-
-    comes : (other : Scored) → (low ≤ other.id) × (other.score ≤ bound) → (i : ℕ) (d : Scored) → i < length found → ComesBefore (get_or found i d) other
-    comes other rest i d lt = (
-      omega (arith, enough i d lt, rest.1),
-      λ e. omega (arith, lower (get_or found i d) (best.each i d lt), rest.0),
-    )
 
 -- the same documents, told otherwise
 pub best_same : (One Next : Scored → Type 0) (k : ℕ) (found : List Scored) → AreBest One k found → ((d : Scored) → One d → Next d)

@@ -1,7 +1,8 @@
 -- The lemmas of this crate.
 mod BestSteps
+mod MarkSteps
+mod PastSteps
 mod PositionLemmas
-mod RangeSteps
 mod RankLaws
 mod ScoreLemmas
-mod WalkSteps
+mod WordSteps

@@ -1,6 +1,7 @@
 //! The best documents so far, the best of them first.
 
-ghost use Rattle.std.specs.Prelude.{◌≡◌, ◌+◌, ◌≤◌, length, min, take};
+ghost use Rattle.std.specs.Prelude.{◌≡◌, ◌↔◌, ◌+◌, ◌≤◌, IsTrue, length, min, take};
+ghost use Rattle.bitpack_ranked.specs.Ranked.{ComesBefore};
 ghost use Rattle.bitpack_ranked.specs.inner.Keeping.{IsKept, IsPlaceFor, TellsFull};
 
 /// A document with its score.
@@ -13,14 +14,14 @@ pub struct Scored {
     pub id: u32,
 }
 
-/// Puts a document after the ones among the first `len` that have its score or a greater one, and retains as many as there is room for. Returns
-/// how many these are.
+/// Puts a document after the ones among the first `len` that come before it, and retains as many as there is room for. Returns how many these
+/// are.
 pub(crate) fn keep(found: &mut [Scored], len: usize, document: Scored) -> usize
     requires { len ≤ length found.old }
     ensures len { result ≡ min (length found.old) (len + 1) }
     ensures kept { IsKept (length found.old) document (take len found.old) (take result found.new) }
 {
-    let at = place_for(&found[..len], document.score);
+    let at = place_for(&found[..len], document);
     if at >= found.len() {
         return len;
     }
@@ -30,22 +31,31 @@ pub(crate) fn keep(found: &mut [Scored], len: usize, document: Scored) -> usize
     last + 1
 }
 
-/// The index of the first document with a lesser score, or the length if there is none.
-fn place_for(found: &[Scored], score: u64) -> usize
-    ensures { IsPlaceFor score found.now result }
+/// The index of the first document that comes after one, or the length if there is none.
+fn place_for(found: &[Scored], document: Scored) -> usize
+    ensures { IsPlaceFor document found.now result }
 {
     for index in 0..found.len() {
-        if found[index].score < score {
+        if comes_before(document, found[index]) {
             return index;
         }
     }
     found.len()
 }
 
-/// Whether the first `len` fill the room, and no later document with at most this score can be among the best.
-pub(crate) fn is_full(found: &[Scored], len: usize, bound: u64) -> bool
-    requires { len ≤ length found.now }
-    ensures { TellsFull (length found.now) bound (take len found.now) result }
+/// Whether a document comes before another: its score is greater, or it is the same and the id is lower.
+#[inline(always)]
+fn comes_before(one: Scored, other: Scored) -> bool
+    ensures { IsTrue result ↔ ComesBefore one other }
 {
-    len == found.len() && (len == 0 || found[len - 1].score >= bound)
+    one.score > other.score || (one.score == other.score && one.id < other.id)
+}
+
+/// Whether the first `len` fill the room, and come before each document with at most the score of one and no lower id.
+#[inline(always)]
+pub(crate) fn is_full(found: &[Scored], len: usize, document: Scored) -> bool
+    requires { len ≤ length found.now }
+    ensures { TellsFull (length found.now) document (take len found.now) result }
+{
+    len == found.len() && (len == 0 || comes_before(found[len - 1], document))
 }

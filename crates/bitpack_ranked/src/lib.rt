@@ -3,11 +3,12 @@
 
 mod as_term;
 mod found;
+mod others;
 mod parts;
-mod range;
 mod ranking;
 mod term;
 mod walk;
+mod words;
 mod worked_scores;
 
 pub use as_term::AsTerm;

@@ -2,6 +2,7 @@
 
 ghost use Rattle.std.specs.Prelude.{◌≡◌, ◌↔◌, ◌≤◌, ℕ, IsTrue, IfSome, None};
 ghost use Rattle.bitpack_ranked.specs.Scores.{IsTable, part_at};
+ghost use Rattle.bitpack_ranked.specs.inner.Walks.{Covers};
 
 /// How many classes of lengths there are.
 pub const CLASSES: usize = 256;
@@ -30,7 +31,17 @@ impl<'a> Parts<'a> {
         }
     }
 
+    /// The parts of a table that was tested before: it is not tested again.
+    #[inline(always)]
+    pub fn of_tested(table: &'a [u32]) -> Parts<'a>
+        requires { IsTable table.now }
+        ensures { result.table.now ≡ table.now }
+    {
+        Parts { table }
+    }
+
     /// The part of a count and a class.
+    #[inline(always)]
     pub fn part(&self, count: u32, class: u32) -> u32
         ensures { result ≡ part_at self.now.table.now count class }
     {
@@ -45,11 +56,12 @@ impl<'a> Parts<'a> {
         self.part(count, 0)
     }
 
-    /// A bound of all parts.
-    pub(crate) fn most_of_all(&self) -> u32
-        ensures { (count class : ℕ) → part_at self.now.table.now count class ≤ result }
+    /// A bound of the parts of a class. The one of class 0 is a bound of all parts.
+    #[inline(always)]
+    pub(crate) fn most_of_class(&self, class: u32) -> u32
+        ensures { (count other : ℕ) → Covers class other → part_at self.now.table.now count other ≤ result }
     {
-        self.table[self.table.len() - CLASSES]
+        self.table[self.table.len() - CLASSES + (class as usize).min(CLASSES - 1)]
     }
 }
 

@@ -1,13 +1,18 @@
 //! The best documents of a query. Blocks of counts that cannot hold one of them stay packed.
 
-ghost use Rattle.std.specs.Prelude.{◌≡◌, ℕ, ◌+◌, ◌^◌, ◌<◌, ◌≤◌, List, length, map, max, slice_index, take};
-ghost use Rattle.bitpack_ranked.specs.Ranked.{AreBest, IsHit};
-ghost use Rattle.bitpack_ranked.specs.inner.Walks.{Each, Ends, HaveGone, IsHitBelow, IsOpen, Rests};
+ghost use Rattle.std.specs.Prelude.{◌≡◌, ℕ, ◌+◌, ◌*◌, ◌^◌, ◌<◌, ◌≤◌, length, map, max, slice_index, take};
+ghost use Rattle.std.specs.List.{count_by};
+ghost use Rattle.bitpack_ranked.specs.Ranked.{AreBest, IsHit, has_word};
+ghost use Rattle.bitpack_ranked.specs.inner.Walks.{HasPart, HasScore, IsAt, IsLow, IsPastIn, IsRest, IsUnpacked};
 
 use crate::as_term::AsTerm;
 use crate::found::{Scored, is_full, keep};
-use crate::range::{bound, meeting, next_document, score, start, turn};
-use crate::walk::{END, Walk};
+use crate::others::{count_others, fill};
+use crate::walk::{BLOCK, Walk, most_of};
+use crate::words::{count_words, rest_of, score};
+
+/// If fewer documents of a block have to be looked up, their ids are not all looked for at once.
+const MANY: usize = 4;
 
 /// Writes the best of the documents that have at least `at_least` of the words, the best of them first, as many as there is room for. Returns
 /// how many these are. A scan of all would find the same.
@@ -18,8 +23,8 @@ use crate::walk::{END, Walk};
 /// With `at_least` of 1 or 0 it is a query by OR, and with as many as there are words by AND. Each word needs one of `walks` as room, which may
 /// hold anything before. Allocates nothing.
 ///
-/// Ids are passed in ranges, in which no word changes its block of 128 positions. If the bounds of the blocks tell that a range has none of the
-/// best, its counts are not unpacked. The ids of all words are.
+/// Words are ranked one after the other, and it is fastest if the rarest word comes first. If the bound of a block of 128 positions tells that
+/// none of the best is there, its counts are not unpacked.
 pub fn best<T: AsTerm>(
     terms: &[T],
     classes: &[u8],
@@ -32,135 +37,279 @@ pub fn best<T: AsTerm>(
     ensures len { result ≤ length found.old }
     ensures best { AreBest (IsHit (map T.its_word terms.now) classes.now (max 1 at_least)) (length found.old) (take result found.new) }
 {
-    let count = terms.len();
-    let query = Query {
-        terms,
-        classes,
-        at_least: at_least.max(1),
-    };
-    query.pass_all(&mut walks[..count], found)
+    clear(walks);
+    let at_least = at_least.max(1);
+    let mut len = 0;
+    // A document with enough of the words has one of these.
+    for index in 0..(terms.len() + 1).saturating_sub(at_least) {
+        let turn = Turn {
+            before: &terms[..index],
+            term: &terms[index],
+            after: &terms[index + 1..],
+            classes,
+            at_least,
+        };
+        len = turn.pass(&mut walks[index], found, len);
+    }
+    len
 }
 
-/// The words of a query, the classes of the lengths of documents, and how many of the words a document has to have.
+/// No blocks were unpacked.
+fn clear(walks: &mut [Walk]) {
+    for index in 0..walks.len() {
+        walks[index].clear();
+    }
+}
+
+/// A word whose documents are ranked, the words before it, whose documents were, and those after it.
 #[derive(Drop)]
-struct Query<'a, T: AsTerm> {
-    terms: &'a [T],
+struct Turn<'a, T: AsTerm> {
+    before: &'a [T],
+    term: &'a T,
+    after: &'a [T],
     classes: &'a [u8],
     at_least: usize,
-    ghost few: { length terms.now ≤ 2 ^ 31 },
+    ghost few: { length after.now ≤ 2 ^ 31 },
+    ghost few_before: { length before.now ≤ 2 ^ 31 },
     ghost some: { 1 ≤ at_least },
 }
 
-impl<'a, T: AsTerm> Query<'a, T> {
-    /// Puts all documents among the best, range by range.
-    fn pass_all(&self, walks: &mut [Walk], found: &mut [Scored]) -> usize
-        requires many { length walks.old ≡ length self.now.terms.now }
+impl<'a, T: AsTerm> Turn<'a, T> {
+    /// Puts the documents of the word among the best, block by block.
+    fn pass(&self, walk: &mut Walk, found: &mut [Scored], len: usize) -> usize
+        requires len { len ≤ length found.old }
+        requires best { AreBest (IsPastIn (map T.its_word self.now.before.now) (T.its_word self.now.term.now) (map T.its_word self.now.after.now)
+            self.now.classes.now self.now.at_least 0) (length found.old) (take len found.old) }
         ensures len { result ≤ length found.old }
-        ensures best { AreBest (IsHitBelow (map T.its_word self.now.terms.now) self.now.classes.now self.now.at_least (2 ^ 32))
-            (length found.old) (take result found.new) }
+        ensures best { AreBest (IsPastIn (map T.its_word self.now.before.now) (T.its_word self.now.term.now) (map T.its_word self.now.after.now)
+            self.now.classes.now self.now.at_least (length (T.its_word self.now.term.now).ids)) (length found.old) (take result found.new) }
     {
-        start(self.terms, walks);
-        let mut len = 0;
-        let mut low = 0;
-        while low < END {
-            let (next, more) = self.take_range(walks, low as u32, found, len);
-            low = next;
-            len = more;
+        walk.start();
+        let rest = rest_of(self.after, 0);
+        let mut len = len;
+        for block in 0..self.term.ids().len().div_ceil(BLOCK) {
+            len = self.pass_block(walk, block, rest, found, len);
         }
         len
     }
 
-    /// Puts the documents of a range from `low` on among the best. Returns the number after the range, and how many are found. If none of the
-    /// documents can be among the best, no counts are unpacked.
-    fn take_range(
+    /// Puts the documents of a block among the best. If none can be, no counts are unpacked.
+    fn pass_block(
         &self,
-        walks: &mut [Walk],
-        low: u32,
-        found: &mut [Scored],
-        len: usize,
-    ) -> (u64, usize)
-        requires many { length walks.old ≡ length self.now.terms.now }
-        requires len { len ≤ length found.old }
-        requires rests { Each (Rests low) (map T.its_word self.now.terms.now) walks.old }
-        requires best { AreBest (IsHitBelow (map T.its_word self.now.terms.now) self.now.classes.now self.now.at_least low)
-            (length found.old) (take len found.old) }
-        ensures forward { (low < result.0) × (result.0 ≤ 2 ^ 32) }
-        ensures len { result.1 ≤ length found.old }
-        ensures rests { Each (Rests result.0) (map T.its_word self.now.terms.now) walks.new }
-        ensures best { AreBest (IsHitBelow (map T.its_word self.now.terms.now) self.now.classes.now self.now.at_least result.0)
-            (length found.old) (take result.1 found.new) }
-    {
-        let end = turn(self.terms, walks, low);
-        let mut last = end;
-        if self.at_least >= self.terms.len() && self.terms.len() > 1 {
-            let first = meeting(self.terms, walks, low);
-            if first > low as u64 {
-                return (first, len);
-            }
-            last = low as u64 + 1;
-        }
-        if is_full(found, len, bound(self.terms, walks, end)) {
-            return (end, len);
-        }
-        let more = self.take_documents(walks, low, last, found, len);
-        (last, more)
-    }
-
-    /// Puts the documents from `low` on that are below `end` among the best.
-    fn take_documents(
-        &self,
-        walks: &mut [Walk],
-        low: u32,
-        end: u64,
+        walk: &mut Walk,
+        block: usize,
+        rest: u64,
         found: &mut [Scored],
         len: usize,
     ) -> usize
-        requires many { length walks.old ≡ length self.now.terms.now }
+        requires within { 128 * block < length (T.its_word self.now.term.now).ids }
+        requires low { IsLow walk.old.low (T.its_word self.now.term.now) block }
+        requires rest { IsRest rest (map T.its_word self.now.after.now) 0 }
+        requires small { rest ≤ 2 ^ 63 }
         requires len { len ≤ length found.old }
-        requires range { (low < end) × (end ≤ 2 ^ 32) }
-        requires open { Each (IsOpen low) (map T.its_word self.now.terms.now) walks.old }
-        requires ends { Each (Ends end) (map T.its_word self.now.terms.now) walks.old }
-        requires best { AreBest (IsHitBelow (map T.its_word self.now.terms.now) self.now.classes.now self.now.at_least low)
-            (length found.old) (take len found.old) }
+        requires best { AreBest (IsPastIn (map T.its_word self.now.before.now) (T.its_word self.now.term.now) (map T.its_word self.now.after.now)
+            self.now.classes.now self.now.at_least (128 * block)) (length found.old) (take len found.old) }
+        ensures low { IsLow walk.new.low (T.its_word self.now.term.now) (block + 1) }
         ensures len { result ≤ length found.old }
-        ensures rests { Each (Rests end) (map T.its_word self.now.terms.now) walks.new }
-        ensures best { AreBest (IsHitBelow (map T.its_word self.now.terms.now) self.now.classes.now self.now.at_least end)
-            (length found.old) (take result found.new) }
+        ensures best { AreBest (IsPastIn (map T.its_word self.now.before.now) (T.its_word self.now.term.now) (map T.its_word self.now.after.now)
+            self.now.classes.now self.now.at_least (128 * (block + 1))) (length found.old) (take result found.new) }
     {
+        let id = walk.low();
+        let score = most_of(self.term, block) as u64 + rest;
+        if is_full(found, len, Scored { score, id }) {
+            return len;
+        }
+        let score = walk.unpack_counts(self.term, block) as u64 + rest;
+        if is_full(found, len, Scored { score, id }) {
+            return len;
+        }
+        walk.unpack_ids(self.term, block);
+        self.pass_documents(walk, block, rest, found, len)
+    }
+
+    /// Puts the documents of an unpacked block among the best.
+    fn pass_documents(
+        &self,
+        walk: &Walk,
+        block: usize,
+        rest: u64,
+        found: &mut [Scored],
+        len: usize,
+    ) -> usize
+        requires block { IsUnpacked (T.its_word self.now.term.now) block walk.now }
+        requires rest { IsRest rest (map T.its_word self.now.after.now) 0 }
+        requires small { rest ≤ 2 ^ 63 }
+        requires len { len ≤ length found.old }
+        requires best { AreBest (IsPastIn (map T.its_word self.now.before.now) (T.its_word self.now.term.now) (map T.its_word self.now.after.now)
+            self.now.classes.now self.now.at_least (128 * block)) (length found.old) (take len found.old) }
+        ensures len { result ≤ length found.old }
+        ensures best { AreBest (IsPastIn (map T.its_word self.now.before.now) (T.its_word self.now.term.now) (map T.its_word self.now.after.now)
+            self.now.classes.now self.now.at_least (128 * (block + 1))) (length found.old) (take result found.new) }
+    {
+        let mut others = [0; 128];
+        self.find_others(walk, rest, found, len, &mut others);
         let mut len = len;
-        let mut id = next_document(self.terms, walks, end);
-        while id < end {
-            len = self.take_document(walks, id as u32, found, len);
-            id = next_document(self.terms, walks, end);
+        for index in 0..walk.len() {
+            let (id, count) = walk.at(index);
+            len = self.pass_document(id, count, rest, others[index], found, len);
         }
         len
     }
 
-    /// Puts a document among the best, if it has enough of the words.
-    fn take_document(&self, walks: &mut [Walk], id: u32, found: &mut [Scored], len: usize) -> usize
-        requires many { length walks.old ≡ length self.now.terms.now }
-        requires len { len ≤ length found.old }
-        requires open { Each (IsOpen id) (map T.its_word self.now.terms.now) walks.old }
-        requires ends { Each (Ends (id + 1)) (map T.its_word self.now.terms.now) walks.old }
-        requires best { AreBest (IsHitBelow (map T.its_word self.now.terms.now) self.now.classes.now self.now.at_least id)
-            (length found.old) (take len found.old) }
-        ensures len { result ≤ length found.old }
-        ensures gone { HaveGone (id + 1) (map T.its_word self.now.terms.now) walks.old walks.new }
-        ensures best { AreBest (IsHitBelow (map T.its_word self.now.terms.now) self.now.classes.now self.now.at_least (id + 1))
-            (length found.old) (take result found.new) }
+    /// Writes of each document of an unpacked block how many of the words after it has at most.
+    fn find_others(
+        &self,
+        walk: &Walk,
+        rest: u64,
+        found: &[Scored],
+        len: usize,
+        others: &mut [usize],
+    )
+        requires block { walk.now.len ≤ 128 }
+        requires room { length others.old ≡ 128 }
+        requires small { rest ≤ 2 ^ 63 }
+        requires len { len ≤ length found.now }
+        ensures { (k : ℕ) → k < walk.now.len
+            → count_by (has_word (slice_index walk.now.ids k)) (map T.its_word self.now.after.now) ≤ slice_index others.new k }
     {
-        let (score, words) = score(self.terms, walks, id, class_of(self.classes, id));
-        if words < self.at_least {
+        if self.count_wanted(walk, rest, found, len) < MANY {
+            let words = self.after.len();
+            fill(others, words);
+            return;
+        }
+        fill(others, 0);
+        count_others(self.after, walk.ids(), others);
+    }
+
+    /// How many documents of an unpacked block have to be looked up. Only the time depends on it.
+    fn count_wanted(&self, walk: &Walk, rest: u64, found: &[Scored], len: usize) -> usize
+        requires block { walk.now.len ≤ 128 }
+        requires small { rest ≤ 2 ^ 63 }
+        requires len { len ≤ length found.now }
+    {
+        let mut wanted: usize = 0;
+        for index in 0..walk.len() {
+            let (id, count) = walk.at(index);
+            let score = self.term.parts().part(count, class_of(self.classes, id)) as u64 + rest;
+            wanted = wanted.wrapping_add(!is_full(found, len, Scored { score, id }) as usize);
+        }
+        wanted
+    }
+
+    /// Puts a document among the best, unless its part and what the words after can add tell that it is not there.
+    #[inline(always)]
+    fn pass_document(
+        &self,
+        id: u32,
+        count: u32,
+        rest: u64,
+        most: usize,
+        found: &mut [Scored],
+        len: usize,
+    ) -> usize
+        requires rest { IsRest rest (map T.its_word self.now.after.now) 0 }
+        requires small { rest ≤ 2 ^ 63 }
+        requires others { count_by (has_word id) (map T.its_word self.now.after.now) ≤ most }
+        requires len { len ≤ length found.old }
+        ensures len { result ≤ length found.old }
+        ensures best { (place : ℕ) → IsAt (T.its_word self.now.term.now) place id count
+            → AreBest (IsPastIn (map T.its_word self.now.before.now) (T.its_word self.now.term.now) (map T.its_word self.now.after.now)
+            self.now.classes.now self.now.at_least place) (length found.old) (take len found.old)
+            → AreBest (IsPastIn (map T.its_word self.now.before.now) (T.its_word self.now.term.now) (map T.its_word self.now.after.now)
+            self.now.classes.now self.now.at_least (place + 1)) (length found.old) (take result found.new) }
+    {
+        let class = class_of(self.classes, id);
+        let part = self.term.parts().part(count, class) as u64;
+        if is_full(
+            found,
+            len,
+            Scored {
+                score: part + rest,
+                id,
+            },
+        ) {
             return len;
         }
-        if is_full(found, len, score) {
+        self.take_document(id, class, part, most, found, len)
+    }
+
+    /// Puts a document among the best, if it is one of them, has enough of the words, and none of those before.
+    fn take_document(
+        &self,
+        id: u32,
+        class: u32,
+        part: u64,
+        most: usize,
+        found: &mut [Scored],
+        len: usize,
+    ) -> usize
+        requires class { slice_index self.now.classes.now id ≡ class }
+        requires small { part < 2 ^ 32 }
+        requires others { count_by (has_word id) (map T.its_word self.now.after.now) ≤ most }
+        requires len { len ≤ length found.old }
+        ensures len { result ≤ length found.old }
+        ensures best { (place : ℕ) → HasPart (T.its_word self.now.term.now) place id class part
+            → AreBest (IsPastIn (map T.its_word self.now.before.now) (T.its_word self.now.term.now) (map T.its_word self.now.after.now)
+            self.now.classes.now self.now.at_least place) (length found.old) (take len found.old)
+            → AreBest (IsPastIn (map T.its_word self.now.before.now) (T.its_word self.now.term.now) (map T.its_word self.now.after.now)
+            self.now.classes.now self.now.at_least (place + 1)) (length found.old) (take result found.new) }
+    {
+        if most < self.at_least - 1 {
             return len;
         }
-        keep(found, len, Scored { score, id })
+        if most == 0 {
+            return self.keep_document(id, part, 0, found, len);
+        }
+        let rest = rest_of(self.after, class);
+        if is_full(
+            found,
+            len,
+            Scored {
+                score: part + rest,
+                id,
+            },
+        ) {
+            return len;
+        }
+        let (others, words) = score(self.after, id, class);
+        self.keep_document(id, part + others, words, found, len)
+    }
+
+    /// Puts a document among the best, by its score and how many of the words after it has, unless it has one of those before.
+    fn keep_document(
+        &self,
+        id: u32,
+        score: u64,
+        words: usize,
+        found: &mut [Scored],
+        len: usize,
+    ) -> usize
+        requires words { words ≡ count_by (has_word id) (map T.its_word self.now.after.now) }
+        requires few { words < 2 ^ 32 }
+        requires len { len ≤ length found.old }
+        ensures len { result ≤ length found.old }
+        ensures best { (place : ℕ) → HasScore (T.its_word self.now.term.now) (map T.its_word self.now.after.now) self.now.classes.now place id score
+            → AreBest (IsPastIn (map T.its_word self.now.before.now) (T.its_word self.now.term.now) (map T.its_word self.now.after.now)
+            self.now.classes.now self.now.at_least place) (length found.old) (take len found.old)
+            → AreBest (IsPastIn (map T.its_word self.now.before.now) (T.its_word self.now.term.now) (map T.its_word self.now.after.now)
+            self.now.classes.now self.now.at_least (place + 1)) (length found.old) (take result found.new) }
+    {
+        let document = Scored { score, id };
+        if words + 1 < self.at_least {
+            return len;
+        }
+        if is_full(found, len, document) {
+            return len;
+        }
+        if count_words(self.before, id) > 0 {
+            return len;
+        }
+        keep(found, len, document)
     }
 }
 
 /// The class of the length of a document. Documents after the end of the list have the first class.
+#[inline(always)]
 fn class_of(classes: &[u8], id: u32) -> u32
     ensures { result ≡ slice_index classes.now id }
 {

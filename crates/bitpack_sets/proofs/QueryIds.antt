@@ -16,12 +16,8 @@ use Rattle.bitpack_sets.proofs.RaisedLaws.{rising_raised}
 use Rattle.bitpack_sets.proofs.SelectionLaws.{and_false}
 use Rattle.bitpack_sets.specs.Bitmaps.{has_bit}
 use Rattle.bitpack_sets.specs.Operations.{those}
-use Rattle.bitpack_sets.specs.Queried.{left}
-use Rattle.bitpack_sets.specs.Queries.{answer_of, ids_from, is_found}
+use Rattle.bitpack_sets.specs.Queries.{IsLoaded, ids_from}
 use Rattle.bitpack_sets.specs.Sets.{IsRising}
-use Rattle.bitpack_sets.specs.declared.id_set.IdSet.{IdSet}
-use Rattle.bitpack_sets.specs.declared.query.Query.{Query}
-use Rattle.bitpack_sets.specs.declared.step.Step.{Step}
 
 kept : (b : Bool) (x : ℕ) (xs : List ℕ) → b ≡ true → cond b (x ∷ xs) xs ≡ x ∷ xs
 kept b x xs e = ap (λ c. cond c (x ∷ xs) xs) e
@@ -208,48 +204,36 @@ stops_within base next i p xs is l at =
     let rise : IsRising base (base + 256) xs = subst (IsRising base (base + 256)) (sym is) (numbers_rise base p) in
     omega (arith, at, rising_top base (base + 256) i xs rise l)
 
--- ---- what is left of a query
+-- ---- what is left of an answer
 
-pub left_moved : (q : Query) (next : ℕ) → q.next ≤ next → ((x : ℕ) → x < 2 ^ 32 → q.next ≤ x → x < next → is_found q.sets.now q.steps.now x ≡ false) → ids_from next (answer_of q.sets.now q.steps.now) ≡ left q
-left_moved q next h none = passed_over (2 ^ 32) q.next next (is_found q.sets.now q.steps.now) h none
+pub left_none : (found : ℕ → Bool) (next : ℕ) → 2 ^ 32 ≤ next → ids_from next (those (2 ^ 32) found) ≡ []
+left_none found next h = none_from 0 (2 ^ 32) next (those (2 ^ 32) found) h (those_rise found (2 ^ 32))
 
-pub left_none : (q : Query) → 2 ^ 32 ≤ q.next → left q ≡ []
-left_none q h = none_from 0 (2 ^ 32) q.next (answer_of q.sets.now q.steps.now) h (those_rise (is_found q.sets.now q.steps.now) (2 ^ 32))
-
-pub left_all : (xs : List ℕ) (high : ℕ) → IsRising 0 high xs → ids_from 0 xs ≡ xs
-left_all xs high r = all_from 0 high 0 xs (omega arith) r
-
-pub all_of_answer : (sets : List IdSet) (steps : List Step) → ids_from 0 (answer_of sets steps) ≡ answer_of sets steps
-all_of_answer sets steps = left_all (answer_of sets steps) (2 ^ 32) (those_rise (is_found sets steps) (2 ^ 32))
+pub left_all : (found : ℕ → Bool) → ids_from 0 (those (2 ^ 32) found) ≡ those (2 ^ 32) found
+left_all found = all_from 0 (2 ^ 32) 0 (those (2 ^ 32) found) (omega arith) (those_rise found (2 ^ 32))
 
 -- before the next high byte that occurs there is none
-pub none_before : (q : Query) (high x : ℕ) → q.next / 65536 ≡ q.key → x < 2 ^ 32 → q.next ≤ x → x < q.next - q.next % 65536 + 256 * high → high ≤ 256
-    → ((i : ℕ) → q.next % 65536 / 256 ≤ i → i < high → has_bit q.highs i ≡ false) → is_found q.sets.now q.steps.now x ≡ false
-none_before q high x key small from to few none =
-    let own : x / 65536 ≡ q.key = omega arith in
-    q.loaded x small own ∙ and_false (has_bit q.highs (x % 65536 / 256)) (has_bit (get_or q.bitmaps.items 0 []) (x % 65536)) (none (x % 65536 / 256) (omega arith) (omega arith))
+pub none_before : (found : ℕ → Bool) (key next : ℕ) (highs : List ℕ) (bitmaps : List (List ℕ)) (high x : ℕ) → IsLoaded found key highs bitmaps → next / 65536 ≡ key → x < 2 ^ 32 → next ≤ x → x < next - next % 65536 + 256 * high → high ≤ 256
+    → ((i : ℕ) → next % 65536 / 256 ≤ i → i < high → has_bit highs i ≡ false) → found x ≡ false
+none_before found key next highs bitmaps high x loaded at small from to few none =
+    let own : x / 65536 ≡ key = omega arith in
+    loaded x small own ∙ and_false (has_bit highs (x % 65536 / 256)) (has_bit (get_or bitmaps 0 []) (x % 65536)) (none (x % 65536 / 256) (omega arith) (omega arith))
 
 -- the ids of a high byte that occurs
-pub own_of_high : (q : Query) (high i : ℕ) → q.next / 65536 ≡ q.key → q.next < 2 ^ 32 → high < 256 → i < 256 → has_bit q.highs high ≡ true
-    → is_found q.sets.now q.steps.now (q.next - q.next % 65536 + 256 * high + i) ≡ has_bit (take 4 (drop (4 * high) (get_or q.bitmaps.items 0 []))) i
-own_of_high q high i key small few inside one =
-    let x : ℕ = q.next - q.next % 65536 + 256 * high + i in
-    let own : x / 65536 ≡ q.key = omega arith in
+pub own_of_high : (found : ℕ → Bool) (key next : ℕ) (highs : List ℕ) (bitmaps : List (List ℕ)) (high i : ℕ) → IsLoaded found key highs bitmaps → next / 65536 ≡ key → next < 2 ^ 32 → high < 256 → i < 256 → has_bit highs high ≡ true
+    → found (next - next % 65536 + 256 * high + i) ≡ has_bit (take 4 (drop (4 * high) (get_or bitmaps 0 []))) i
+own_of_high found key next highs bitmaps high i loaded at small few inside one =
+    let x : ℕ = next - next % 65536 + 256 * high + i in
+    let own : x / 65536 ≡ key = omega arith in
     let low : x % 65536 ≡ 256 * high + i = omega arith in
     let byte : x % 65536 / 256 ≡ high = omega arith in
-    q.loaded x (omega arith) own
-    ∙ ap (λ (h : ℕ). has_bit q.highs h && has_bit (get_or q.bitmaps.items 0 []) (x % 65536)) byte
-    ∙ ap (λ b. b && has_bit (get_or q.bitmaps.items 0 []) (x % 65536)) one
-    ∙ ap (has_bit (get_or q.bitmaps.items 0 [])) low ∙ sym (has_part (get_or q.bitmaps.items 0 []) high i inside)
+    loaded x (omega arith) own
+    ∙ ap (λ (h : ℕ). has_bit highs h && has_bit (get_or bitmaps 0 []) (x % 65536)) byte
+    ∙ ap (λ b. b && has_bit (get_or bitmaps 0 []) (x % 65536)) one
+    ∙ ap (has_bit (get_or bitmaps 0 [])) low ∙ sym (has_part (get_or bitmaps 0 []) high i inside)
 
-first_is : (bitmaps : List (List ℕ)) (own : List ℕ) → 0 < length bitmaps → own ≡ get_or bitmaps 0 own → get_or bitmaps 0 [] ≡ own
-first_is [] own l e = absurd (omega arith)
-first_is (words ∷ bitmaps) own l e = sym e
-
-pub part_same : (bitmaps : List (List ℕ)) (own : List ℕ) (from i : ℕ) → 0 < length bitmaps → own ≡ get_or bitmaps 0 own → has_bit (take 4 (drop from (get_or bitmaps 0 []))) i ≡ has_bit (take (from + 4 - from) (drop from own)) i
-part_same bitmaps own from i l e =
-    let four : 4 ≡ from + 4 - from = omega arith in
-    ap (λ ws. has_bit (take 4 (drop from ws)) i) (first_is bitmaps own l e) ∙ ap (λ (n : ℕ). has_bit (take n (drop from own)) i) four
+pub part_same : (own : List ℕ) (from i : ℕ) → has_bit (take 4 (drop from own)) i ≡ has_bit (take (from + 4 - from) (drop from own)) i
+part_same own from i = let four : 4 ≡ from + 4 - from = omega arith in ap (λ (n : ℕ). has_bit (take n (drop from own)) i) four
 
 -- ids of one high byte are written
 pub high_written : (p : ℕ → Bool) (bits : List ℕ) (base n least next : ℕ) (old new : List ℕ) → base + 256 ≤ 2 ^ 32 → base ≤ least → least ≤ base + 256 → base ≤ next → next ≤ base + 256 → n ≤ least
@@ -262,15 +246,3 @@ high_written p bits base n least next old new room a b c d later none own e =
     ap (λ xs. new ++ xs) (with_slice (2 ^ 32) base next p (has_bit bits) room c d own) ∙ sym (append_assoc new (ids_from next numbers) rest)
     ∙ ap (λ xs. xs ++ rest) e ∙ append_assoc old (ids_from least numbers) rest
     ∙ ap (λ xs. old ++ xs) (sym (with_slice (2 ^ 32) base least p (has_bit bits) room a b own) ∙ passed_over (2 ^ 32) n least p later none)
-
--- where the next ids that can come begin
-pub record Moves (q r : Query) : Type 0 where
-  pub sets : r.sets ≡ q.sets
-  pub steps : r.steps ≡ q.steps
-  pub later : q.next ≤ r.next
-  pub none : (x : ℕ) → x < 2 ^ 32 → q.next ≤ x → x < r.next → is_found q.sets.now q.steps.now x ≡ false
-
-pub moved : (q m r : Query) → Moves q m → r.sets ≡ m.sets → r.steps ≡ m.steps → r.next ≡ m.next → left r ≡ left q
-moved q m r moves a b n =
-    ap (λ sets. ids_from r.next (answer_of sets.now r.steps.now)) (a ∙ moves.sets) ∙ ap (λ steps. ids_from r.next (answer_of q.sets.now steps.now)) (b ∙ moves.steps)
-    ∙ ap (λ (next : ℕ). ids_from next (answer_of q.sets.now q.steps.now)) n ∙ left_moved q m.next moves.later moves.none

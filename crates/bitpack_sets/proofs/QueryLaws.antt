@@ -1,17 +1,15 @@
 -- The steps of a query, and the operands that wait.
-use Rattle.std.proofs.Common.{◌≡◌, ℕ, zero, suc, ◌+◌, ◌-◌, ◌/◌, ◌%◌, ◌<◌, ◌≤◌, ◌≢◌, ◌⊎◌, inl, inr, eqb, leb, ltb, if◌then◌else◌, Bool, true, false, List, [], ◌∷◌, ◌++◌, length, get_or, set, take, drop, eq-eqb, refl, sym, ap, ◌∙◌, subst, arith, Option, None, Some, get_or-set_same}
+use Rattle.std.proofs.Common.{◌≡◌, ℕ, zero, suc, ◌+◌, ◌-◌, ◌/◌, ◌%◌, ◌<◌, ◌≤◌, ◌≢◌, ◌⊎◌, inl, inr, eqb, leb, ltb, if◌then◌else◌, Bool, true, false, List, [], ◌∷◌, ◌++◌, length, get_or, map, max, set, take, drop, eq-eqb, refl, sym, ap, ◌∙◌, subst, arith, Option, None, Some, get_or-set_same}
 use Rattle.std.specs.List.{AllZip}
 use Rattle.std.proofs.lemmas.Bool.{eqb-true, false≢true, le-leb, leb-false, le-ltb, ltb-false, lt-leb, lt-ltb, ne_eqb}
-use Rattle.std.proofs.lemmas.List.{get_or-drop, get_or-set_other, get_or-take, set-append_left, take_all}
+use Rattle.std.proofs.lemmas.List.{drop_all, get_or-drop, get_or-map, get_or-set_other, get_or-take, length-map, set-append_left, take_all}
 use Rattle.std.proofs.lemmas.List.Sums.{fold_more}
 use Rattle.std.proofs.lemmas.Option.{none-some}
-use Rattle.bitpack_sets.proofs.FoldLaws.{none_of_highs}
+use Rattle.bitpack_sets.proofs.FoldLaws.{none_of_highs, set_ids}
 use Rattle.bitpack_sets.specs.Bitmaps.{has_bit}
-use Rattle.bitpack_sets.specs.Opened.{ids}
 use Rattle.bitpack_sets.specs.Operations.{holds}
-use Rattle.bitpack_sets.specs.Queries.{evaluate, fault_from, in_set, is_found, waiting_after}
+use Rattle.bitpack_sets.specs.Queries.{evaluate, fault_from, in_set, is_found, most_waiting, waiting_after}
 use Rattle.bitpack_sets.specs.Reads.{has}
-use Rattle.bitpack_sets.specs.declared.id_set.IdSet.{IdSet}
 use Rattle.bitpack_sets.specs.declared.operation.Operation.{Operation}
 use Rattle.bitpack_sets.specs.declared.query_error.QueryError.{QueryError}
 use Rattle.bitpack_sets.specs.declared.query_error.QueryError.TheVariants.{Empty, NoSet, TooDeep, MissingOperand, LeftOver}
@@ -20,10 +18,20 @@ use Rattle.bitpack_sets.specs.declared.step.Step.TheVariants.{Set, Combine}
 
 -- ---- faults of the steps that are left
 
-pub rest_is : (steps : List Step) (i : ℕ) (d s : Step) → i < length steps → get_or steps i d ≡ s → drop i steps ≡ s ∷ drop (i + 1) steps
+rest_is : (steps : List Step) (i : ℕ) (d s : Step) → i < length steps → get_or steps i d ≡ s → drop i steps ≡ s ∷ drop (i + 1) steps
 rest_is [] i d s l e = absurd (omega arith)
 rest_is (t ∷ ts) zero d s l e = ap (λ (u : Step). u ∷ ts) e
 rest_is (t ∷ ts) (suc i) d s l e = let n : suc i + 1 ≡ suc (i + 1) = omega arith in rest_is ts i d s (omega arith) e ∙ ap (λ (k : ℕ). s ∷ drop k (t ∷ ts)) (sym n)
+
+-- the step of what stands for one
+step_within : {A : Type 0} (f : A → Step) (steps : List A) (i : ℕ) → i < length steps → i < length (map f steps)
+step_within f steps i l = omega (arith, length-map steps f)
+
+step_is : {A : Type 0} (f : A → Step) (steps : List A) (i : ℕ) (a : A) (r s : Step) → i < length steps → a ≡ get_or steps i a → r ≡ f a → r ≡ s → get_or (map f steps) i s ≡ s
+step_is f steps i a r s l at is e = get_or-map f steps i a s l ∙ ap f (sym at) ∙ sym is ∙ e
+
+pub rest_at : {A : Type 0} (f : A → Step) (steps : List A) (i : ℕ) (a : A) (r s : Step) → i < length steps → a ≡ get_or steps i a → r ≡ f a → r ≡ s → drop i (map f steps) ≡ s ∷ drop (i + 1) (map f steps)
+rest_at f steps i a r s l at is e = rest_is (map f steps) i s s (step_within f steps i l) (step_is f steps i a r s l at is e)
 
 if_false : {A : Type 0} (b : Bool) (x y : A) → b ≡ false → (if b then x else y) ≡ y
 if_false b x y e = ap (λ (c : Bool). if c then x else y) e
@@ -51,24 +59,41 @@ pub operand_missing : (most sets depth i : ℕ) (operation : Operation) (rest : 
 unfolding fault_from
 operand_missing most sets depth i operation rest h = if_true (ltb depth 2) _ _ (lt-ltb depth 2 h)
 
-rest_none : (steps : List Step) (i : ℕ) → length steps ≤ i → drop i steps ≡ []
-rest_none [] zero l = refl
-rest_none [] (suc i) l = refl
-rest_none (s ∷ steps) zero l = absurd (omega arith)
-rest_none (s ∷ steps) (suc i) l = rest_none steps i (omega arith)
+rest_none : {A : Type 0} (f : A → Step) (steps : List A) (i : ℕ) → length steps ≤ i → drop i (map f steps) ≡ []
+rest_none f steps i l = drop_all i (map f steps) (omega (arith, length-map steps f))
 
-pub none_left_over : (most sets depth i : ℕ) (steps : List Step) → length steps ≤ i → depth ≡ 0 → fault_from most sets i depth (drop i steps) ≡ Some Empty
+pub none_left_over : {A : Type 0} (f : A → Step) (most sets depth i : ℕ) (steps : List A) → length steps ≤ i → depth ≡ 0 → fault_from most sets i depth (drop i (map f steps)) ≡ Some Empty
 unfolding fault_from
-none_left_over most sets depth i steps l e = ap (fault_from most sets i depth) (rest_none steps i l) ∙ if_true (eqb depth 0) _ _ (eq-eqb depth 0 e)
+none_left_over f most sets depth i steps l e = ap (fault_from most sets i depth) (rest_none f steps i l) ∙ if_true (eqb depth 0) _ _ (eq-eqb depth 0 e)
 
-pub one_left_over : (most sets depth i : ℕ) (steps : List Step) → length steps ≤ i → depth ≡ 1 → fault_from most sets i depth (drop i steps) ≡ None
+pub one_left_over : {A : Type 0} (f : A → Step) (most sets depth i : ℕ) (steps : List A) → length steps ≤ i → depth ≡ 1 → fault_from most sets i depth (drop i (map f steps)) ≡ None
 unfolding fault_from
-one_left_over most sets depth i steps l e = ap (fault_from most sets i depth) (rest_none steps i l) ∙ if_false (eqb depth 0) _ _ (ne_eqb depth 0 (λ z. omega arith)) ∙ if_true (eqb depth 1) _ _ (eq-eqb depth 1 e)
+one_left_over f most sets depth i steps l e = ap (fault_from most sets i depth) (rest_none f steps i l) ∙ if_false (eqb depth 0) _ _ (ne_eqb depth 0 (λ z. omega arith)) ∙ if_true (eqb depth 1) _ _ (eq-eqb depth 1 e)
 
-pub more_left_over : (most sets depth i : ℕ) (steps : List Step) → length steps ≤ i → 1 < depth → fault_from most sets i depth (drop i steps) ≡ Some (LeftOver depth)
+pub more_left_over : {A : Type 0} (f : A → Step) (most sets depth i : ℕ) (steps : List A) → length steps ≤ i → 1 < depth → fault_from most sets i depth (drop i (map f steps)) ≡ Some (LeftOver depth)
 unfolding fault_from
-more_left_over most sets depth i steps l e =
-    ap (fault_from most sets i depth) (rest_none steps i l) ∙ if_false (eqb depth 0) _ _ (ne_eqb depth 0 (λ z. omega arith)) ∙ if_false (eqb depth 1) _ _ (ne_eqb depth 1 (λ z. omega arith))
+more_left_over f most sets depth i steps l e =
+    ap (fault_from most sets i depth) (rest_none f steps i l) ∙ if_false (eqb depth 0) _ _ (ne_eqb depth 0 (λ z. omega arith)) ∙ if_false (eqb depth 1) _ _ (ne_eqb depth 1 (λ z. omega arith))
+
+-- ---- the most operands that wait at once
+
+at_least : (depth : ℕ) (steps : List Step) → depth ≤ most_waiting depth steps
+unfolding most_waiting
+at_least depth [] = omega arith
+at_least depth (Set i ∷ steps) = omega arith
+at_least depth (Combine operation ∷ steps) = omega arith
+
+pub most_after_set : (most new depth k : ℕ) (rest : List Step) → depth ≤ most → new ≡ max most (depth + 1) → max most (most_waiting depth (Set k ∷ rest)) ≡ max new (most_waiting (depth + 1) rest)
+unfolding most_waiting
+most_after_set most new depth k rest h e = omega (arith, at_least (depth + 1) rest)
+
+pub most_after_combine : (most depth : ℕ) (operation : Operation) (rest : List Step) → depth ≤ most → max most (most_waiting depth (Combine operation ∷ rest)) ≡ max most (most_waiting (depth - 1) rest)
+unfolding most_waiting
+most_after_combine most depth operation rest h = omega arith
+
+pub most_at_end : {A : Type 0} (f : A → Step) (most depth i : ℕ) (steps : List A) → length steps ≤ i → depth ≤ most → max most (most_waiting depth (drop i (map f steps))) ≡ most
+unfolding most_waiting
+most_at_end f most depth i steps l h = ap (λ rest. max most (most_waiting depth rest)) (rest_none f steps i l) ∙ omega arith
 
 -- what steps without a fault show
 pub record SetFits (most sets depth i k : ℕ) (rest : List Step) : Type 0 where
@@ -104,20 +129,23 @@ operands_wait most sets depth i operation rest e =
     let first = not_then (ltb depth 2) (MissingOperand i) (fault_from most sets (i + 1) (depth - 1) rest) e in
     record { two = ltb-false depth 2 first.0; later = first.1 }
 
-pub set_at : (most sets depth i k : ℕ) (steps : List Step) (d : Step) → i < length steps → get_or steps i d ≡ Set k → fault_from most sets i depth (drop i steps) ≡ None → SetFits most sets depth i k (drop (i + 1) steps)
-set_at most sets depth i k steps d l e none = set_fits most sets depth i k (drop (i + 1) steps) (sym (ap (fault_from most sets i depth) (rest_is steps i d (Set k) l e)) ∙ none)
+pub set_at : {A : Type 0} (f : A → Step) (most sets depth i k : ℕ) (steps : List A) (a : A) (r : Step) → i < length steps → a ≡ get_or steps i a → r ≡ f a → r ≡ Set k → fault_from most sets i depth (drop i (map f steps)) ≡ None
+    → SetFits most sets depth i k (drop (i + 1) (map f steps))
+set_at f most sets depth i k steps a r l at is e none =
+    set_fits most sets depth i k (drop (i + 1) (map f steps)) (sym (ap (fault_from most sets i depth) (rest_at f steps i a r (Set k) l at is e)) ∙ none)
 
-pub combine_at : (most sets depth i : ℕ) (operation : Operation) (steps : List Step) (d : Step) → i < length steps → get_or steps i d ≡ Combine operation → fault_from most sets i depth (drop i steps) ≡ None
-    → OperandsWait most sets depth i (drop (i + 1) steps)
-combine_at most sets depth i operation steps d l e none = operands_wait most sets depth i operation (drop (i + 1) steps) (sym (ap (fault_from most sets i depth) (rest_is steps i d (Combine operation) l e)) ∙ none)
+pub combine_at : {A : Type 0} (f : A → Step) (most sets depth i : ℕ) (operation : Operation) (steps : List A) (a : A) (r : Step) → i < length steps → a ≡ get_or steps i a → r ≡ f a → r ≡ Combine operation
+    → fault_from most sets i depth (drop i (map f steps)) ≡ None → OperandsWait most sets depth i (drop (i + 1) (map f steps))
+combine_at f most sets depth i operation steps a r l at is e none =
+    operands_wait most sets depth i operation (drop (i + 1) (map f steps)) (sym (ap (fault_from most sets i depth) (rest_at f steps i a r (Combine operation) l at is e)) ∙ none)
 
 one_waits : (depth : ℕ) (fault : QueryError) → (if eqb depth 1 then None else Some fault) ≡ None → depth ≡ 1
 one_waits depth fault e = eqb-true depth 1 (not_else (eqb depth 1) fault e)
 
-pub one_left : (most sets depth i : ℕ) (steps : List Step) → length steps ≤ i → fault_from most sets i depth (drop i steps) ≡ None → depth ≡ 1
+one_left : {A : Type 0} (f : A → Step) (most sets depth i : ℕ) (steps : List A) → length steps ≤ i → fault_from most sets i depth (drop i (map f steps)) ≡ None → depth ≡ 1
 unfolding fault_from
-one_left most sets depth i steps l e =
-    let at_end : fault_from most sets i depth [] ≡ None = sym (ap (fault_from most sets i depth) (rest_none steps i l)) ∙ e in
+one_left f most sets depth i steps l e =
+    let at_end : fault_from most sets i depth [] ≡ None = sym (ap (fault_from most sets i depth) (rest_none f steps i l)) ∙ e in
     one_waits depth (LeftOver depth) (not_then (eqb depth 0) Empty (if eqb depth 1 then None else Some (LeftOver depth)) at_end).1
 
 pub some_waits : (most sets : ℕ) (steps : List Step) → fault_from most sets 0 0 steps ≡ None → 0 < most
@@ -170,28 +198,26 @@ held_combined R z xs depth low high waiting member operation v two d h l join he
 
 -- ---- the steps one by one
 
-pub one_more : (steps : List Step) (i : ℕ) (member : ℕ → Bool) (d s : Step) → i < length steps → get_or steps i d ≡ s → evaluate (take (i + 1) steps) member ≡ waiting_after member (evaluate (take i steps) member) s
+one_more : (steps : List Step) (i : ℕ) (member : ℕ → Bool) (d s : Step) → i < length steps → get_or steps i d ≡ s → evaluate (take (i + 1) steps) member ≡ waiting_after member (evaluate (take i steps) member) s
 one_more steps i member d s l e = fold_more (waiting_after member) [] steps i d l ∙ ap (waiting_after member (evaluate (take i steps) member)) e
 
-pub in_set_at : (sets : List IdSet) (x i : ℕ) (s : IdSet) → i < length sets → s ≡ get_or sets i s → in_set sets x i ≡ has x (ids s)
+pub in_set_at : (sets : List (List ℕ)) (x i : ℕ) (xs : List ℕ) → i < length sets → get_or sets i [] ≡ xs → in_set sets x i ≡ has x xs
 unfolding in_set
-in_set_at [] x i s l e = absurd (omega arith)
-in_set_at (t ∷ sets) x zero s l e = ap (λ (u : IdSet). has x (ids u)) (sym e)
-in_set_at (t ∷ sets) x (suc i) s l e = in_set_at sets x i s (omega arith) e
+in_set_at sets x i xs l e = get_or-map (has x) sets i [] false l ∙ ap (has x) e
 
 -- the steps are at their end: what is kept for the operand that is left is as the answer
 held_one : {A : Type 0} (R : A → Bool → Type 0) (z : A) (xs : List A) (waiting : List Bool) → Held R z xs (suc zero) waiting → R (get_or xs 0 z) (get_or waiting 0 false)
 held_one R z xs [] held = absurd held
 held_one R z xs (b ∷ waiting) held = held.0
 
-pub held_found : {A : Type 0} (R : A → Bool → Type 0) (z : A) (kept : List A) (most depth i : ℕ) (sets : List IdSet) (steps : List Step) (x : ℕ) → length steps ≤ i → fault_from most (length sets) i depth (drop i steps) ≡ None
-    → Held R z kept depth (evaluate (take i steps) (in_set sets x)) → R (get_or kept 0 z) (is_found sets steps x)
+pub held_found : {A B : Type 0} (f : B → Step) (R : A → Bool → Type 0) (z : A) (kept : List A) (most count depth i : ℕ) (sets : List (List ℕ)) (steps : List B) (x : ℕ) → length steps ≤ i → fault_from most count i depth (drop i (map f steps)) ≡ None
+    → Held R z kept depth (evaluate (take i (map f steps)) (in_set sets x)) → R (get_or kept 0 z) (is_found sets (map f steps) x)
 unfolding is_found
-held_found R z kept most depth i sets steps x l none held =
-    let one : depth ≡ suc zero = one_left most (length sets) depth i steps l none in
-    let all : take i steps ≡ steps = take_all i steps l in
-    held_one R z kept (evaluate steps (in_set sets x))
-    (subst (λ (ss : List Step). Held R z kept (suc zero) (evaluate ss (in_set sets x))) all (subst (λ (d : ℕ). Held R z kept d (evaluate (take i steps) (in_set sets x))) one held))
+held_found f R z kept most count depth i sets steps x l none held =
+    let one : depth ≡ suc zero = one_left f most count depth i steps l none in
+    let all : take i (map f steps) ≡ map f steps = take_all i (map f steps) (omega (arith, length-map steps f)) in
+    held_one R z kept (evaluate (map f steps) (in_set sets x))
+    (subst (λ (ss : List Step). Held R z kept (suc zero) (evaluate ss (in_set sets x))) all (subst (λ (d : ℕ). Held R z kept d (evaluate (take i (map f steps)) (in_set sets x))) one held))
 
 -- ---- what is kept for an operand
 
@@ -236,15 +262,19 @@ tells_joined operation x xs front back low high words a b f g l own p q =
     ∙ ap (λ (ws : List ℕ). holds operation (has_bit (get_or xs low []) (x % 65536)) (has_bit ws (x % 65536))) second
     ∙ ap (λ (c : Bool). holds operation c (has_bit (get_or xs high []) (x % 65536))) p ∙ ap (holds operation a) q
 
-pub held_after_set : {A : Type 0} (R : A → Bool → Type 0) (z : A) (kept : List A) (depth i k : ℕ) (sets : List IdSet) (steps : List Step) (d : Step) (s : IdSet) (x : ℕ) (v : A) → i < length steps → get_or steps i d ≡ Set k → k < length sets → s ≡ get_or sets k s
-    → depth < length kept → R v (has x (ids s)) → Held R z kept depth (evaluate (take i steps) (in_set sets x)) → Held R z (set kept depth v) (depth + 1) (evaluate (take (i + 1) steps) (in_set sets x))
-held_after_set R z kept depth i k sets steps d s x v l e within is room r held =
-    subst (λ bs. Held R z (set kept depth v) (depth + 1) bs) (sym (one_more steps i (in_set sets x) d (Set k) l e))
-    (held_set R z kept depth (evaluate (take i steps) (in_set sets x)) v (in_set sets x k) room (subst (R v) (sym (in_set_at sets x k s within is)) r) held)
+pub held_after_set : {A B C : Type 0} (f : B → Step) (h : C → List ℕ) (R : A → Bool → Type 0) (z : A) (kept : List A) (depth i k : ℕ) (sets : List C) (steps : List B) (b : B) (r : Step) (s : C) (xs : List ℕ) (x : ℕ) (v : A)
+    → i < length steps → b ≡ get_or steps i b → r ≡ f b → r ≡ Set k → k < length sets → s ≡ get_or sets k s → xs ≡ h s → depth < length kept → R v (has x xs)
+    → Held R z kept depth (evaluate (take i (map f steps)) (in_set (map h sets) x)) → Held R z (set kept depth v) (depth + 1) (evaluate (take (i + 1) (map f steps)) (in_set (map h sets) x))
+held_after_set f h R z kept depth i k sets steps b r s xs x v l at is e within set_is own room holds held =
+    let member = in_set (map h sets) x in
+    let in_it : member k ≡ has x xs = in_set_at (map h sets) x k xs (omega (arith, length-map sets h)) (set_ids h sets k s within set_is ∙ sym own) in
+    subst (λ bs. Held R z (set kept depth v) (depth + 1) bs) (sym (one_more (map f steps) i member (Set k) (Set k) (step_within f steps i l) (step_is f steps i b r (Set k) l at is e)))
+    (held_set R z kept depth (evaluate (take i (map f steps)) member) v (member k) room (subst (R v) (sym in_it) holds) held)
 
-pub held_after_combine : {A : Type 0} (R : A → Bool → Type 0) (z : A) (kept : List A) (depth low high i : ℕ) (sets : List IdSet) (steps : List Step) (d : Step) (operation : Operation) (x : ℕ) (v : A) → i < length steps → get_or steps i d ≡ Combine operation
-    → 2 ≤ depth → low + 2 ≡ depth → low + 1 ≡ high → low < length kept → ((a b : Bool) → R (get_or kept low z) a → R (get_or kept high z) b → R v (holds operation a b))
-    → Held R z kept depth (evaluate (take i steps) (in_set sets x)) → Held R z (set kept low v) high (evaluate (take (i + 1) steps) (in_set sets x))
-held_after_combine R z kept depth low high i sets steps d operation x v l e two a b room join held =
-    subst (λ bs. Held R z (set kept low v) high bs) (sym (one_more steps i (in_set sets x) d (Combine operation) l e))
-    (held_combined R z kept depth low high (evaluate (take i steps) (in_set sets x)) (in_set sets x) operation v two a b room join held)
+pub held_after_combine : {A B : Type 0} (f : B → Step) (R : A → Bool → Type 0) (z : A) (kept : List A) (depth low high i : ℕ) (sets : List (List ℕ)) (steps : List B) (b : B) (r : Step) (operation : Operation) (x : ℕ) (v : A)
+    → i < length steps → b ≡ get_or steps i b → r ≡ f b → r ≡ Combine operation → 2 ≤ depth → low + 2 ≡ depth → low + 1 ≡ high → low < length kept → ((a b : Bool) → R (get_or kept low z) a → R (get_or kept high z) b → R v (holds operation a b))
+    → Held R z kept depth (evaluate (take i (map f steps)) (in_set sets x)) → Held R z (set kept low v) high (evaluate (take (i + 1) (map f steps)) (in_set sets x))
+held_after_combine f R z kept depth low high i sets steps b r operation x v l at is e two under over room join held =
+    let member = in_set sets x in
+    subst (λ bs. Held R z (set kept low v) high bs) (sym (one_more (map f steps) i member (Combine operation) (Combine operation) (step_within f steps i l) (step_is f steps i b r (Combine operation) l at is e)))
+    (held_combined R z kept depth low high (evaluate (take i (map f steps)) member) member operation v two under over room join held)

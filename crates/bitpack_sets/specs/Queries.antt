@@ -1,13 +1,11 @@
 -- Queries: trees of operations on sets, in postfix order.
-use Rattle.std.specs.Prelude.{◌≡◌, ℕ, ◌+◌, ◌-◌, ◌/◌, ◌%◌, ◌^◌, ◌<◌, ◌&&◌, ◌==◌, nat_lt, nat_le, if◌then◌else◌, Bool, false, List, [], ◌∷◌, get_or, map, slice_index_or, Option, Some, None, Result, Ok, Err}
+use Rattle.std.specs.Prelude.{◌≡◌, ℕ, ◌+◌, ◌-◌, ◌/◌, ◌%◌, ◌^◌, ◌<◌, ◌&&◌, ◌==◌, nat_lt, nat_le, if◌then◌else◌, Bool, false, List, [], ◌∷◌, get_or, map, max, slice_index_or, Option, Some, None, Result, Ok, Err}
 use Rattle.std.specs.List.{filter, fold}
 use Rattle.bitpack_sets.specs.Bitmaps.{has_bit}
-use Rattle.bitpack_sets.specs.Opened.{ids}
 use Rattle.bitpack_sets.specs.Operations.{holds, those}
 use Rattle.bitpack_sets.specs.Reads.{has}
-use Rattle.bitpack_sets.specs.declared.id_set.IdSet.{IdSet}
 use Rattle.bitpack_sets.specs.declared.query_error.QueryError.{QueryError}
-use Rattle.bitpack_sets.specs.declared.query_error.QueryError.TheVariants.{Empty, NoSet, TooDeep, MissingOperand, LeftOver}
+use Rattle.bitpack_sets.specs.declared.query_error.QueryError.TheVariants.{Empty, LeftOver, MissingOperand, NoSet, Short, TooDeep}
 use Rattle.bitpack_sets.specs.declared.step.Step.{Step}
 use Rattle.bitpack_sets.specs.declared.step.Step.TheVariants.{Set, Combine}
 
@@ -28,6 +26,20 @@ abbrev pub FindsFault : {A : Type 0} → Result A QueryError → Option QueryErr
 FindsFault (Ok _) fault = fault ≡ None
 FindsFault (Err found) fault = fault ≡ Some found
 
+-- the most operands that wait at once, if `depth` wait before these steps
+unfoldable pub most_waiting : ℕ → List Step → ℕ
+most_waiting depth [] = depth
+most_waiting depth (Set i ∷ steps) = max depth (most_waiting (depth + 1) steps)
+most_waiting depth (Combine operation ∷ steps) = max depth (most_waiting (depth - 1) steps)
+
+-- the first fault of a query: the first of its steps, or that there are fewer bitmaps than operands that wait at once
+abbrev pub or_short : ℕ → ℕ → Option QueryError → Option QueryError
+or_short bitmaps most (Some fault) = Some fault
+or_short bitmaps most None = if nat_lt bitmaps most then Some (Short most) else None
+
+abbrev pub query_fault : ℕ → ℕ → List Step → Option QueryError
+query_fault bitmaps sets steps = or_short bitmaps (most_waiting 0 steps) (fault_from 64 sets 0 0 steps)
+
 -- the operands that wait after a step, the last first: each says whether it has an id. `member` says whether a set has it.
 abbrev pub waiting_after : (ℕ → Bool) → List Bool → Step → List Bool
 waiting_after member waiting (Set i) = member i ∷ waiting
@@ -41,22 +53,22 @@ evaluate steps member = fold (waiting_after member) [] steps
 -- ---- the answer
 
 -- set i has this id
-unfoldable pub in_set : List IdSet → ℕ → ℕ → Bool
-in_set sets x i = get_or (map (λ set. has x (ids set)) sets) i false
+unfoldable pub in_set : List (List ℕ) → ℕ → ℕ → Bool
+in_set sets x i = get_or (map (has x) sets) i false
 
 -- an id is in the answer: the steps leave true
-unfoldable pub is_found : List IdSet → List Step → ℕ → Bool
+unfoldable pub is_found : List (List ℕ) → List Step → ℕ → Bool
 is_found sets steps x = get_or (evaluate steps (in_set sets x)) 0 false
 
 -- the ids of the answer
-abbrev pub answer_of : List IdSet → List Step → List ℕ
+abbrev pub answer_of : List (List ℕ) → List Step → List ℕ
 answer_of sets steps = those (2 ^ 32) (is_found sets steps)
 
 -- ids that are not below one
 abbrev pub ids_from : ℕ → List ℕ → List ℕ
 ids_from least xs = filter (nat_le least) xs
 
--- the first bitmap says which ids of a key are in the answer, if they have one of these high bytes, and the answer has no others
-abbrev pub IsLoaded : List IdSet → List Step → ℕ → List ℕ → List (List ℕ) → Type 0
-IsLoaded sets steps key highs bitmaps =
-    (x : ℕ) → x < 2 ^ 32 → x / 65536 ≡ key → is_found sets steps x ≡ (has_bit highs (x % 65536 / 256) && has_bit (slice_index_or bitmaps 0 []) (x % 65536))
+-- the first bitmap says which ids of a key are found, if they have one of these high bytes, and no others are
+abbrev pub IsLoaded : (ℕ → Bool) → ℕ → List ℕ → List (List ℕ) → Type 0
+IsLoaded found key highs bitmaps =
+    (x : ℕ) → x < 2 ^ 32 → x / 65536 ≡ key → found x ≡ (has_bit highs (x % 65536 / 256) && has_bit (slice_index_or bitmaps 0 []) (x % 65536))

@@ -29,7 +29,7 @@ pub(crate) fn unpack_array(rest: &[u8], out: &mut [u32])
     }
 }
 
-/// How many ids of an array are below one, by halves.
+/// How many ids of an array are below `id`, by halves.
 pub(crate) fn rank_in_array(rest: &[u8], id: u32) -> usize
     requires { IsRising 0 (2 ^ 32) (quads_of rest.now) }
     ensures { result ≡ rank id (quads_of rest.now) }
@@ -109,7 +109,7 @@ fn count_chunks(ids: &[u8]) -> usize
     chunks
 }
 
-/// 1 if a key is another than the one before, else 0.
+/// 1 if a key differs from the one before, else 0.
 #[inline(always)]
 fn changes(key: u32, before: u32) -> usize
     ensures same { key ≡ before → result ≡ 0 }

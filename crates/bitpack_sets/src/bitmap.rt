@@ -1,4 +1,4 @@
-//! Bitmaps of chunks: 256 bits for each high byte. The bits of high bytes that are not asked for say nothing, and are never cleared.
+//! Bitmaps of chunks: 256 bits for each high byte. The bits of high bytes that a call does not name mean nothing, and are never cleared.
 
 pub(crate) mod combining;
 pub(crate) mod loading;

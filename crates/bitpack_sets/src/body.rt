@@ -26,8 +26,8 @@ pub(crate) enum Body<'a> {
     Blocks(&'a [u8]),
 }
 
-/// Writes the ids that an operation on two bodies gives, if there is room for all. Returns the index after the last, past the
-/// slice if there is no room.
+/// Writes the ids that an operation on two bodies gives, if there is room for all. Returns the index after the last, or one past the slice
+/// if there is no room.
 pub(crate) fn combine(
     operation: Operation,
     key: u32,
@@ -124,8 +124,8 @@ fn combine_slices(
     at + count_combined(operation, &a, &b)
 }
 
-/// Writes the ids of a list whose low 16 bits a body of blocks has, or lacks, if there is room for all. Returns the index after the last, past
-/// the slice if there is no room.
+/// Writes the ids of a list whose low 16 bits a body of blocks has, or lacks, if there is room for all. Returns the index after the last, or one
+/// past the slice if there is no room.
 fn look_up(list: &Listed, body: &[u8], there: bool, out: &mut [u32], at: usize) -> usize
     requires start { at ≤ 2 ^ 32 }
     requires body { IsBlocks (length (block_numbers body.now)) body.now }
@@ -135,8 +135,8 @@ fn look_up(list: &Listed, body: &[u8], there: bool, out: &mut [u32], at: usize) 
     filter(list, &Blocks::new(body, &mut starts), there, out, at)
 }
 
-/// Writes the ids that an operation on a body of blocks and a list gives, if there is room for all. Returns the index after the
-/// last, past the slice if there is no room.
+/// Writes the ids that an operation on a body of blocks and a list gives, if there is room for all. Returns the index after the last, or one
+/// past the slice if there is no room.
 #[inline(never)]
 fn mix_list(
     operation: Operation,

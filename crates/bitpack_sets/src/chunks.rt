@@ -116,7 +116,7 @@ impl<'a> Chunks<'a> {
         low
     }
 
-    /// Where the ids of a key end that begin at a position: at that position, if it has another key.
+    /// The position after the ids of a key that begin at a position: this position, if its id has another key.
     pub(crate) fn end(&self, place: usize, key: u32) -> usize
         requires within { place ≤ places self.now }
         requires key { key < NO_KEY }

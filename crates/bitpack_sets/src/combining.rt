@@ -59,8 +59,8 @@ pub(crate) fn append_combined(
 
 /// Writes the ids that an operation on two sets gives at the start of the slice, and returns their number. Allocates nothing.
 ///
-/// Fails only with `Short`, if the slice has no room for them; what it holds then says nothing. Room for the ids of both sets is always enough.
-/// Items after the ids may change.
+/// Fails only with `Short`, if the slice has no room for them. Room for the ids of both sets is always enough. Items after the ids may change,
+/// and any item if it fails.
 pub fn combine_to(
     operation: Operation,
     a: &IdSet,
@@ -140,8 +140,8 @@ fn write_chunks(mut pair: Pair, out: &mut [u32]) -> usize
     at
 }
 
-/// Writes the ids of a key that are in the answer, if there is room for all. Returns the index after the last, past the
-/// slice if there is no room.
+/// Writes the ids of a key that are in the answer, if there is room for all. Returns the index after the last, or one past the slice if there
+/// is no room.
 fn write_meeting(pair: &Pair, meeting: Meeting, out: &mut [u32], at: usize) -> usize
     requires meeting { IsMeeting pair.now meeting }
     requires start { at ≤ 2 ^ 32 }

@@ -20,7 +20,7 @@ const MOST_WRITTEN: usize = 4096;
 /// Writes the ids of the first set, combined with each other set in turn, at the start of the slice, and returns their number. If
 /// there is no set, it writes no id. Allocates nothing.
 ///
-/// Fails only with `Short`, if the slice has no room for them; what it holds then says nothing. Items after the ids may change.
+/// Fails only with `Short`, if the slice has no room for them. Items after the ids may change, and any item if it fails.
 pub fn combine_all_to<S: AsSet>(
     operation: Operation,
     sets: &[S],
@@ -43,7 +43,7 @@ pub fn combine_all_to<S: AsSet>(
     }
 }
 
-/// How many ids the first set gives, combined with each other set in turn: 2 to the power of 32 at most. Allocates nothing.
+/// How many ids the first set gives, combined with each other set in turn: at most 2 to the power of 32. Allocates nothing.
 pub fn combine_all_count<S: AsSet>(operation: Operation, sets: &[S]) -> u64
     ensures { result ≡ length (answer_all operation (map S.its_ids sets.now)) }
 {
@@ -121,7 +121,7 @@ fn shortest<S: AsSet>(sets: &[S]) -> (usize, usize)
     found
 }
 
-/// Writes the ids that all sets have: those that two have, without those that another lacks. None if there is no room for the first.
+/// Writes the ids that all sets have: those that two have, without those that another lacks. Returns `None` if there is no room for the first.
 fn intersect_to<S: AsSet>(sets: &[S], a: usize, b: usize, out: &mut [u32]) -> Option<usize>
     requires within { (a < length sets.now) × (b < length sets.now) }
     ensures len { IfSome result (λ len. len ≡ length (answer_all Operation.And (map S.its_ids sets.now))) }
@@ -136,8 +136,8 @@ fn intersect_to<S: AsSet>(sets: &[S], a: usize, b: usize, out: &mut [u32]) -> Op
     Some(count)
 }
 
-/// Writes the ids that the first set has alone: those that the second lacks, without those that another has. None if there is no room for
-/// the first.
+/// Writes the ids that the first set has alone: those that the second lacks, without those that another has. Returns `None` if there
+/// is no room for the first.
 fn subtract_to<S: AsSet>(sets: &[S], out: &mut [u32]) -> Option<usize>
     requires some { 2 ≤ length sets.now }
     ensures len { IfSome result (λ len. len ≡ length (answer_all Operation.AndNot (map S.its_ids sets.now))) }
@@ -188,7 +188,7 @@ fn fold_to<S: AsSet>(operation: Operation, sets: &[S], out: &mut [u32]) -> Resul
     Ok(at)
 }
 
-/// Writes the ids of several keys from `base` on. Returns where they end, or None if there is no room for them.
+/// Writes the ids of several keys from `base` on. Returns the index after the last, or `None` if there is no room for them.
 fn unpack_keys(
     highs: &[[u64; 4]; KEYS],
     words: &[[u64; 1024]; KEYS],

@@ -88,7 +88,7 @@ fn unpack_chunk_from(
     unpack_blocks_from(body, base, from, out);
 }
 
-/// Writes the ids of a chunk. Returns where they end.
+/// Writes the ids of a chunk. Returns the index after the last.
 fn unpack_chunk(
     count: usize,
     chunks: usize,

@@ -42,7 +42,7 @@ fn test_some(more: usize, bytes: &[u8]) -> Result<(), SetError>
     test_end(rest)
 }
 
-/// Writes the ids of what is after byte 0 of the encoding of as many ids as the slice has. It has no fault.
+/// Writes the ids of such a set to a slice of as many. The bytes after byte 0 of its encoding are given, and have no fault.
 pub(crate) fn unpack_few(bytes: &[u8], out: &mut [u32])
     requires few { length out.old ≤ MOST_FEW }
     requires sound { short_fault (length out.old) bytes.now ≡ None }
@@ -93,7 +93,7 @@ pub(crate) fn in_few(count: usize, bytes: &[u8], id: u32) -> bool
     is_among(ids, id)
 }
 
-/// How many ids of such a set are below one.
+/// How many ids of such a set are below `id`.
 pub(crate) fn rank_in_few(count: usize, bytes: &[u8], id: u32) -> usize
     requires few { count ≤ MOST_FEW }
     requires sound { short_fault count bytes.now ≡ None }
@@ -130,7 +130,7 @@ fn is_among(ids: &[u32], id: u32) -> bool
     false
 }
 
-/// How many ids are below one.
+/// How many ids are below `id`.
 fn count_below(ids: &[u32], id: u32) -> usize
     ensures { result ≡ rank id ids.now }
 {
@@ -141,7 +141,7 @@ fn count_below(ids: &[u32], id: u32) -> usize
     count
 }
 
-/// Writes an id and as many others as there is room for codes.
+/// Writes the ids of such a set. The room for codes has one item less than there are ids.
 fn unpack_some(bytes: &[u8], codes: &mut [u32], out: &mut [u32])
     requires room { length out.old ≡ length codes.old + 1 }
     requires sound { short_fault (length out.old) bytes.now ≡ None }
@@ -152,7 +152,7 @@ fn unpack_some(bytes: &[u8], codes: &mut [u32], out: &mut [u32])
     add_up(first, codes, out);
 }
 
-/// Writes an id and those that are as far above the one before as their codes say.
+/// Writes an id, and for each code the id that is this code and 1 above the one before.
 fn add_up(first: u32, codes: &[u32], out: &mut [u32])
     requires room { length out.old ≡ length codes.now + 1 }
     requires small { Rattle.bitpack_sets.specs.Faults.first_over 0 (ids_from first codes.now) ≡ None }

@@ -23,7 +23,7 @@ use crate::operation::Operation;
 pub(crate) const KEYS: usize = 8;
 
 /// Leaves the ids of the answer that have one of the keys from `base` on: for each key high bytes, and a bit for each id that has one of
-/// these. The first set and another are exchanged. Returns a key after these, `NO_KEY` at most, below which the answer has no other id.
+/// these. The first set and another are exchanged. Returns a later key, at most `NO_KEY`, below which the answer has no other id.
 pub(crate) fn combine_keys<S: AsSet>(
     operation: Operation,
     sets: &[S],

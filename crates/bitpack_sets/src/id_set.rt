@@ -127,7 +127,7 @@ impl<'a> IdSet<'a> {
         in_few(self.count, self.rest, id)
     }
 
-    /// How many ids are below one. It is the position of the id, if the set has it.
+    /// How many ids are below `id`. If the set has `id`, this is its position.
     pub fn rank(&self, id: u32) -> usize
         ensures { result ≡ rank id (ids self.now) }
     {
@@ -141,7 +141,7 @@ impl<'a> IdSet<'a> {
         rank_in_few(self.count, self.rest, id)
     }
 
-    /// The id at a position, which begins at 0. It is `None` exactly if the position is not below the number of ids.
+    /// The id at a position, counted from 0. It is `None` exactly if `position` is not below the number of ids.
     pub fn select(&self, position: usize) -> Option<u32>
         ensures { result ≡ slice_get (ids self.now) position }
     {

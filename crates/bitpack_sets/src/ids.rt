@@ -39,7 +39,7 @@ impl<'a> Ids<'a> {
         }
     }
 
-    /// The next id, which stays the next.
+    /// The next id. It does not pass over it.
     #[inline(always)]
     pub(crate) fn peek(&mut self) -> Option<u32>
         ensures set { self.new.set ≡ self.old.set }
@@ -79,7 +79,7 @@ impl<'a> Ids<'a> {
         self.next = position;
     }
 
-    // If all that are unpacked came, unpacks the next.
+    // Unpacks the next ids once it has returned all that are unpacked.
     #[inline(always)]
     fn refill(&mut self)
         ensures set { self.new.set ≡ self.old.set }

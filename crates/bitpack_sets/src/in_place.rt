@@ -19,12 +19,13 @@ use crate::id_set::{IdSet, ROOM};
 use crate::reserved::append_zeros;
 use crate::set_error::SetError;
 
-/// After how many ids of a key the slices of its body are found once, and after how many its bitmap is loaded.
+/// With more ids of a key than this, the slices of its body are found once for all of them.
 const MANY: usize = 3;
 
+/// With more ids of a key than this, its bitmap is loaded to look them up.
 const MOST: usize = 511;
 
-/// After how many ids of a key its bitmap is loaded to count them.
+/// With more ids of a key than this, its bitmap is loaded to count them.
 const SOME: usize = 31;
 
 /// Keeps the ids that a set has, in their order. They need not increase. Allocates nothing.
@@ -173,7 +174,7 @@ fn unite_first(values: &mut [u32], count: usize, set: &IdSet)
     unite(values, start, set);
 }
 
-/// Unites the ids from an index on with a set. As many ids of the set as are before it are not among them.
+/// Unites the ids from an index on with a set. The index is the number of ids of the set that are not among them.
 fn unite(values: &mut [u32], start: usize, set: &IdSet)
     requires increasing { IsRising 0 (2 ^ 32) (drop start values.old) }
     requires room { length (ids set.now) ≡ start + length (filter (λ x. has x (ids set.now)) (drop start values.old)) }
@@ -193,7 +194,7 @@ fn unite(values: &mut [u32], start: usize, set: &IdSet)
     }
 }
 
-/// Moves the ids from an index on that are below another to those written. Returns how many these are.
+/// Moves the ids from an index on that are below another to the end of the ids written. Returns their number.
 fn move_below(values: &mut [u32], written: usize, from: usize, id: u32) -> usize
     requires { (written ≤ from) × (from ≤ length values.old) }
     ensures within { from + result ≤ length values.new }

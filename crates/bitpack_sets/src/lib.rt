@@ -4,6 +4,7 @@
 mod appending;
 mod array;
 mod as_set;
+mod as_step;
 mod bitmap;
 mod blocks;
 mod body;
@@ -40,6 +41,7 @@ mod worked_sets;
 
 pub use appending::{append, append_to};
 pub use as_set::AsSet;
+pub use as_step::AsStep;
 pub use combining::{combine, combine_count, combine_to, is_disjoint, is_subset};
 pub use combining_all::{combine_all_count, combine_all_to};
 pub use combining_sets::combine_set;
@@ -50,7 +52,7 @@ pub use ids::Ids;
 pub use in_place::{add, add_to, keep, remove, retain};
 pub use opening::Parts;
 pub use operation::Operation;
-pub use query::Query;
+pub use query::{Query, query_to};
 pub use query_error::QueryError;
 pub use set_builder::SetBuilder;
 pub use set_error::SetError;

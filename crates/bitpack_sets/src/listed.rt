@@ -96,9 +96,9 @@ impl<'a> Listed<'a> {
     }
 }
 
-/// Writes an id if it is in the answer. Returns the index of the next one, past the slice if there was no room.
+/// Writes an id if it is in the answer. Returns the index of the next one, or one past the slice if there was no room.
 ///
-/// Without a branch that depends on the ids: an id that is not in the answer is written too, and the next one over it.
+/// No branch depends on the ids: it writes also an id that is not in the answer, and the next one over it.
 #[inline(always)]
 pub(crate) fn put(id: u32, there: bool, out: &mut [u32], at: usize) -> usize
     requires { at < 2 ^ 63 }

@@ -84,7 +84,7 @@ impl Operation {
     /// The high bytes that the answer can have, by the high bytes of two chunks.
     #[inline(always)]
     pub(crate) fn highs(self, a: &[u64; 4], b: &[u64; 4]) -> [u64; 4]
-        // What it leaves out, the answer has not.
+        // The answer has no id of a high byte that is left out.
         ensures both { (h : ℕ) → h < 256 → has_bit result h ≡ false → holds self (has_bit a.now h) (has_bit b.now h) ≡ false }
         ensures left { (h : ℕ) → h < 256 → has_bit result h ≡ false → holds self (has_bit a.now h) false ≡ false }
         ensures right { (h : ℕ) → h < 256 → has_bit result h ≡ false → holds self false (has_bit b.now h) ≡ false }

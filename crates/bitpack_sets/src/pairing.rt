@@ -48,7 +48,7 @@ impl<'a> Pair<'a> {
         }
     }
 
-    /// The next key that the answer can have. None if no id is left.
+    /// The next key that the answer can have, or `None` if no id is left.
     pub(crate) fn next(&mut self) -> Option<Meeting>
         ensures none { IfNone result ((x : ℕ) → x < 2 ^ 32 → left self.old x ≡ false) }
         ensures meeting { IfSome result (λ meeting. IsMeeting self.new meeting) }

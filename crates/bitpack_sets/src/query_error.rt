@@ -16,6 +16,8 @@ pub enum QueryError {
     MissingOperand(usize),
     /// This many operands are left after the last step, and not one.
     LeftOver(usize),
+    /// This many operands wait at once, and there are fewer bitmaps.
+    Short(usize),
     /// There is no memory for the bitmaps of the operands that wait.
     Memory,
 }
@@ -36,6 +38,12 @@ impl fmt::Display for QueryError {
             }
             QueryError::LeftOver(count) => {
                 write!(f, "{count} operands are left after the last step")
+            }
+            QueryError::Short(most) => {
+                write!(
+                    f,
+                    "{most} operands wait at once, and there are fewer bitmaps"
+                )
             }
             QueryError::Memory => write!(f, "out of memory"),
         }

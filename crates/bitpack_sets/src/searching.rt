@@ -28,7 +28,7 @@ pub(crate) fn in_chunks(count: usize, chunks: usize, rest: &[u8], id: u32) -> bo
     in_chunk(count, chunks, rest, chunk, (id % 65536) as u16)
 }
 
-/// How many ids of a set in chunks are below one.
+/// How many ids of a set in chunks are below `id`.
 pub(crate) fn rank_in_chunks(count: usize, chunks: usize, rest: &[u8], id: u32) -> usize
     requires few { chunks ≤ 65536 }
     requires rest { IsRest count chunks rest.now }
@@ -98,7 +98,7 @@ fn select_in_chunk(count: usize, chunks: usize, rest: &[u8], chunk: usize, posit
     select_in_blocks(body, position)
 }
 
-/// How many numbers of a chunk are below one.
+/// How many numbers of a chunk are below `number`.
 fn rank_in_chunk(count: usize, chunks: usize, rest: &[u8], chunk: usize, number: u16) -> usize
     requires few { chunks ≤ 65536 }
     requires rest { IsRest count chunks rest.now }

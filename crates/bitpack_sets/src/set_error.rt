@@ -34,11 +34,11 @@ pub enum SetError {
     BadKey(usize),
     /// The sum of this chunk says that it has no id, or more than 65,536; or the sum of the last chunk is not the count of ids.
     BadSum(usize),
-    /// The body of this chunk is not one of as many numbers.
+    /// The body of this chunk does not encode as many numbers as the sums say.
     BadBody(usize),
     /// The body of this chunk has two bytes for each number, and its blocks are shorter.
     LooseBody(usize),
-    /// The ids stand as an array, and belong in chunks.
+    /// The ids are an array, and the format requires chunks for them.
     LooseForm,
 }
 

@@ -3,6 +3,7 @@
 pub(crate) mod marks;
 pub(crate) mod places;
 pub(crate) mod reading;
+mod rows;
 pub(crate) mod search;
 pub(crate) mod selecting;
 pub(crate) mod testing;
@@ -62,7 +63,7 @@ impl<'a> Slice<'a> {
         slice_bits(self.count, self.bytes())
     }
 
-    /// Writes its numbers, each with `base` added. Returns where they end. Up to 31 numbers after the end change too.
+    /// Writes its numbers, each with `base` added. Returns the index after the last. Up to 31 items from there on may change too.
     #[inline(always)]
     pub(crate) fn unpack(self, base: u32, out: &mut [u32], at: usize) -> usize
         requires fits { base + 256 ≤ 2 ^ 32 }

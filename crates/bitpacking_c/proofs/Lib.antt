@@ -1,3 +1,4 @@
 pub mod ChainLengths
 pub mod ColumnSteps
 pub mod ManySteps
+pub mod TermSteps

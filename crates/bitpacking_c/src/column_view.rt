@@ -16,7 +16,7 @@ use bitpack_columns::{Column, ColumnKind, Parts};
 ///
 /// C has to set it before it is opened: to the empty column of the header, or all of it to zero, which is an empty plain column too.
 #[repr(C)]
-#[derive(Drop)]
+#[derive(Clone, Copy)]
 pub struct ColumnView<'a> {
     bytes: &'a [u8],
     count: usize,

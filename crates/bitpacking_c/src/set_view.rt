@@ -14,7 +14,7 @@ use bitpack_sets::{AsSet, IdSet, Parts};
 ///
 /// C has to set it before it is opened: to the empty set of the header, or all of it to zero, which is an empty set too.
 #[repr(C)]
-#[derive(Drop)]
+#[derive(Clone, Copy)]
 pub struct SetView<'a> {
     pub(crate) bytes: &'a [u8],
     count: usize,

@@ -6,7 +6,7 @@ ghost use Rattle.std.specs.Prelude.{◌≡◌};
 /// thousand times the minor one, and the number of the patch.
 #[unsafe(no_mangle)]
 pub extern "C" fn bitpacking_version() -> u32
-    ensures { result ≡ 1000000 }
+    ensures { result ≡ 2000000 }
 {
-    1000000
+    2000000
 }

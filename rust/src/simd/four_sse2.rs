@@ -10,199 +10,88 @@ use core::arch::x86_64::*;
 
 pub(super) type Words = __m128i;
 
-#[inline(always)]
-pub(super) fn load(words: &[u32; 4]) -> Words {
-    unsafe { _mm_loadu_si128(words.as_ptr().cast()) }
-}
-
-#[inline(always)]
-pub(super) fn store(a: Words, words: &mut [u32; 4]) {
-    unsafe { _mm_storeu_si128(words.as_mut_ptr().cast(), a) }
-}
-
-#[inline(always)]
-pub(super) fn load_bytes(bytes: &[u8; 16]) -> Words {
-    unsafe { _mm_loadu_si128(bytes.as_ptr().cast()) }
-}
-
-#[inline(always)]
-pub(super) fn store_bytes(a: Words, bytes: &mut [u8; 16]) {
-    unsafe { _mm_storeu_si128(bytes.as_mut_ptr().cast(), a) }
-}
-
-#[inline(always)]
-pub(super) fn splat(word: u32) -> Words {
-    unsafe { _mm_set1_epi32(word as i32) }
-}
-
-#[inline(always)]
-pub(super) fn splat_byte(byte: u8) -> Words {
-    unsafe { _mm_set1_epi8(byte as i8) }
-}
-
-#[inline(always)]
-pub(super) fn shl(a: Words, count: u32) -> Words {
-    unsafe { _mm_sll_epi32(a, _mm_cvtsi32_si128(count as i32)) }
-}
-
-#[inline(always)]
-pub(super) fn shr(a: Words, count: u32) -> Words {
-    unsafe { _mm_srl_epi32(a, _mm_cvtsi32_si128(count as i32)) }
-}
-
-#[inline(always)]
-pub(super) fn shr_bytes(a: Words, count: u32) -> Words {
-    and(shr(a, count), splat_byte(255 >> count))
-}
-
-#[inline(always)]
-pub(super) fn or(a: Words, b: Words) -> Words {
-    unsafe { _mm_or_si128(a, b) }
-}
-
-#[inline(always)]
-pub(super) fn and(a: Words, b: Words) -> Words {
-    unsafe { _mm_and_si128(a, b) }
-}
-
-#[inline(always)]
-pub(super) fn add(a: Words, b: Words) -> Words {
-    unsafe { _mm_add_epi32(a, b) }
-}
-
-#[inline(always)]
-pub(super) fn sub(a: Words, b: Words) -> Words {
-    unsafe { _mm_sub_epi32(a, b) }
-}
-
-#[inline(always)]
-pub(super) fn eq(a: Words, b: Words) -> Words {
-    unsafe { _mm_cmpeq_epi32(a, b) }
-}
-
-/// SSE2 compares words with a sign alone.
-#[inline(always)]
-#[cfg(not(target_feature = "sse4.1"))]
-pub(super) fn ge(a: Words, b: Words) -> Words {
-    unsafe {
-        let sign = _mm_set1_epi32(i32::MIN);
-        let less = _mm_cmplt_epi32(_mm_xor_si128(a, sign), _mm_xor_si128(b, sign));
-        _mm_xor_si128(less, _mm_set1_epi32(-1))
+operations! {
+    fn load(words: &[u32; 4]) -> Words { unsafe { _mm_loadu_si128(words.as_ptr().cast()) } }
+    fn store(a: Words, words: &mut [u32; 4]) { unsafe { _mm_storeu_si128(words.as_mut_ptr().cast(), a) } }
+    fn load_bytes(bytes: &[u8; 16]) -> Words { unsafe { _mm_loadu_si128(bytes.as_ptr().cast()) } }
+    fn store_bytes(a: Words, bytes: &mut [u8; 16]) { unsafe { _mm_storeu_si128(bytes.as_mut_ptr().cast(), a) } }
+    fn splat(word: u32) -> Words { unsafe { _mm_set1_epi32(word as i32) } }
+    fn splat_byte(byte: u8) -> Words { unsafe { _mm_set1_epi8(byte as i8) } }
+    fn shl(a: Words, count: u32) -> Words { unsafe { _mm_sll_epi32(a, _mm_cvtsi32_si128(count as i32)) } }
+    fn shr(a: Words, count: u32) -> Words { unsafe { _mm_srl_epi32(a, _mm_cvtsi32_si128(count as i32)) } }
+    fn shr_bytes(a: Words, count: u32) -> Words { and(shr(a, count), splat_byte(255 >> count)) }
+    fn or(a: Words, b: Words) -> Words { unsafe { _mm_or_si128(a, b) } }
+    fn and(a: Words, b: Words) -> Words { unsafe { _mm_and_si128(a, b) } }
+    fn add(a: Words, b: Words) -> Words { unsafe { _mm_add_epi32(a, b) } }
+    fn sub(a: Words, b: Words) -> Words { unsafe { _mm_sub_epi32(a, b) } }
+    fn eq(a: Words, b: Words) -> Words { unsafe { _mm_cmpeq_epi32(a, b) } }
+    /// SSE2 compares words with a sign alone.
+    #[cfg(not(target_feature = "sse4.1"))]
+    fn ge(a: Words, b: Words) -> Words {
+        unsafe {
+            let sign = _mm_set1_epi32(i32::MIN);
+            let less = _mm_cmplt_epi32(_mm_xor_si128(a, sign), _mm_xor_si128(b, sign));
+            _mm_xor_si128(less, _mm_set1_epi32(-1))
+        }
     }
-}
-
-#[inline(always)]
-#[cfg(target_feature = "sse4.1")]
-pub(super) fn ge(a: Words, b: Words) -> Words {
-    unsafe { _mm_cmpeq_epi32(_mm_max_epu32(a, b), a) }
-}
-
-#[inline(always)]
-pub(super) fn bits(a: Words) -> u32 {
-    unsafe { _mm_movemask_ps(_mm_castsi128_ps(a)) as u32 }
-}
-
-#[inline(always)]
-pub(super) fn widen(bytes: [u8; 8]) -> (Words, Words) {
-    unsafe {
-        let zero = _mm_setzero_si128();
-        let halves = _mm_unpacklo_epi8(_mm_loadl_epi64(bytes.as_ptr().cast()), zero);
-        (_mm_unpacklo_epi16(halves, zero), _mm_unpackhi_epi16(halves, zero))
+    #[cfg(target_feature = "sse4.1")]
+    fn ge(a: Words, b: Words) -> Words { unsafe { _mm_cmpeq_epi32(_mm_max_epu32(a, b), a) } }
+    fn bits(a: Words) -> u32 { unsafe { _mm_movemask_ps(_mm_castsi128_ps(a)) as u32 } }
+    fn widen(bytes: [u8; 8]) -> (Words, Words) {
+        unsafe {
+            let zero = _mm_setzero_si128();
+            let halves = _mm_unpacklo_epi8(_mm_loadl_epi64(bytes.as_ptr().cast()), zero);
+            (_mm_unpacklo_epi16(halves, zero), _mm_unpackhi_epi16(halves, zero))
+        }
     }
-}
-
-#[inline(always)]
-#[cfg(not(target_feature = "ssse3"))]
-pub(super) fn shuffle_3_4_5_6(a: Words, b: Words) -> Words {
-    unsafe { _mm_or_si128(_mm_srli_si128::<12>(a), _mm_slli_si128::<4>(b)) }
-}
-
-#[inline(always)]
-#[cfg(target_feature = "ssse3")]
-pub(super) fn shuffle_3_4_5_6(a: Words, b: Words) -> Words {
-    unsafe { _mm_alignr_epi8::<12>(b, a) }
-}
-
-/// One shift if `a` is zero.
-#[inline(always)]
-pub(super) fn shuffle_0_4_5_6(a: Words, b: Words) -> Words {
-    unsafe { _mm_or_si128(_mm_and_si128(a, _mm_set_epi32(0, 0, 0, -1)), _mm_slli_si128::<4>(b)) }
-}
-
-#[inline(always)]
-pub(super) fn shuffle_0_1_4_5(a: Words, b: Words) -> Words {
-    unsafe { _mm_unpacklo_epi64(a, b) }
-}
-
-#[inline(always)]
-pub(super) fn swizzle_3_3_3_3(a: Words) -> Words {
-    unsafe { _mm_shuffle_epi32::<0xff>(a) }
-}
-
-#[inline(always)]
-pub(super) fn equal_bytes(a: Words, b: Words) -> Words {
-    unsafe { _mm_cmpeq_epi8(a, b) }
-}
-
-/// SSE2 compares bytes with a sign alone.
-#[inline(always)]
-pub(super) fn less_bytes(a: Words, b: Words) -> Words {
-    unsafe {
-        let sign = _mm_set1_epi8(i8::MIN);
-        _mm_cmplt_epi8(_mm_xor_si128(a, sign), _mm_xor_si128(b, sign))
+    #[cfg(not(target_feature = "ssse3"))]
+    fn shuffle_3_4_5_6(a: Words, b: Words) -> Words {
+        // The compiler joins two shuffles to one, so that a loop of few of them is unrolled.
+        unsafe {
+            let (a, b) = (_mm_castsi128_ps(a), _mm_castsi128_ps(b));
+            _mm_castps_si128(_mm_shuffle_ps::<0x98>(_mm_shuffle_ps::<0x03>(a, b), b))
+        }
     }
-}
-
-#[inline(always)]
-pub(super) fn at_most_bytes(a: Words, b: Words) -> Words {
-    unsafe { _mm_cmpeq_epi8(_mm_min_epu8(a, b), a) }
-}
-
-#[inline(always)]
-pub(super) fn high_bits(a: Words) -> u32 {
-    unsafe { _mm_movemask_epi8(a) as u32 }
-}
-
-#[inline(always)]
-#[cfg(not(target_feature = "sse4.1"))]
-pub(super) fn select(mask: Words, a: Words, b: Words) -> Words {
-    unsafe { _mm_or_si128(_mm_and_si128(mask, a), _mm_andnot_si128(mask, b)) }
-}
-
-#[inline(always)]
-#[cfg(target_feature = "sse4.1")]
-pub(super) fn select(mask: Words, a: Words, b: Words) -> Words {
-    unsafe { _mm_blendv_epi8(b, a, mask) }
-}
-
-#[inline(always)]
-#[cfg(not(target_feature = "ssse3"))]
-pub(super) fn bytes_at(bytes: [u8; 8], indices: [u8; 8]) -> [u8; 8] {
-    indices.map(|index| bytes[usize::from(index & 7)])
-}
-
-#[inline(always)]
-#[cfg(target_feature = "ssse3")]
-pub(super) fn bytes_at(bytes: [u8; 8], indices: [u8; 8]) -> [u8; 8] {
-    let mut taken = [0; 8];
-    unsafe {
-        let (all, at) = (_mm_loadl_epi64(bytes.as_ptr().cast()), _mm_loadl_epi64(indices.as_ptr().cast()));
-        _mm_storel_epi64(taken.as_mut_ptr().cast(), _mm_shuffle_epi8(all, at));
+    #[cfg(target_feature = "ssse3")]
+    fn shuffle_3_4_5_6(a: Words, b: Words) -> Words { unsafe { _mm_alignr_epi8::<12>(b, a) } }
+    /// One shift if `a` is zero.
+    fn shuffle_0_4_5_6(a: Words, b: Words) -> Words {
+        unsafe { _mm_or_si128(_mm_and_si128(a, _mm_set_epi32(0, 0, 0, -1)), _mm_slli_si128::<4>(b)) }
     }
-    taken
-}
-
-#[inline(always)]
-#[cfg(not(target_feature = "ssse3"))]
-pub(super) fn bytes_at_16(a: Words, indices: Words) -> Words {
-    let (mut bytes, mut at) = ([0; 16], [0; 16]);
-    store_bytes(a, &mut bytes);
-    store_bytes(indices, &mut at);
-    load_bytes(&at.map(|index| bytes[usize::from(index & 15)]))
-}
-
-#[inline(always)]
-#[cfg(target_feature = "ssse3")]
-pub(super) fn bytes_at_16(a: Words, indices: Words) -> Words {
-    unsafe { _mm_shuffle_epi8(a, indices) }
+    fn shuffle_0_1_4_5(a: Words, b: Words) -> Words { unsafe { _mm_unpacklo_epi64(a, b) } }
+    fn swizzle_3_3_3_3(a: Words) -> Words { unsafe { _mm_shuffle_epi32::<0xff>(a) } }
+    fn equal_bytes(a: Words, b: Words) -> Words { unsafe { _mm_cmpeq_epi8(a, b) } }
+    /// SSE2 compares bytes with a sign alone.
+    fn less_bytes(a: Words, b: Words) -> Words {
+        unsafe {
+            let sign = _mm_set1_epi8(i8::MIN);
+            _mm_cmplt_epi8(_mm_xor_si128(a, sign), _mm_xor_si128(b, sign))
+        }
+    }
+    fn at_most_bytes(a: Words, b: Words) -> Words { unsafe { _mm_cmpeq_epi8(_mm_min_epu8(a, b), a) } }
+    fn high_bits(a: Words) -> u32 { unsafe { _mm_movemask_epi8(a) as u32 } }
+    #[cfg(not(target_feature = "sse4.1"))]
+    fn select(mask: Words, a: Words, b: Words) -> Words { unsafe { _mm_or_si128(_mm_and_si128(mask, a), _mm_andnot_si128(mask, b)) } }
+    #[cfg(target_feature = "sse4.1")]
+    fn select(mask: Words, a: Words, b: Words) -> Words { unsafe { _mm_blendv_epi8(b, a, mask) } }
+    #[cfg(not(target_feature = "ssse3"))]
+    fn bytes_at(bytes: [u8; 8], indices: [u8; 8]) -> [u8; 8] { indices.map(|index| bytes[usize::from(index & 7)]) }
+    #[cfg(target_feature = "ssse3")]
+    fn bytes_at(bytes: [u8; 8], indices: [u8; 8]) -> [u8; 8] {
+        let mut taken = [0; 8];
+        unsafe {
+            let (all, at) = (_mm_loadl_epi64(bytes.as_ptr().cast()), _mm_loadl_epi64(indices.as_ptr().cast()));
+            _mm_storel_epi64(taken.as_mut_ptr().cast(), _mm_shuffle_epi8(all, at));
+        }
+        taken
+    }
+    #[cfg(not(target_feature = "ssse3"))]
+    fn bytes_at_16(a: Words, indices: Words) -> Words {
+        let (mut bytes, mut at) = ([0; 16], [0; 16]);
+        store_bytes(a, &mut bytes);
+        store_bytes(indices, &mut at);
+        load_bytes(&at.map(|index| bytes[usize::from(index & 15)]))
+    }
+    #[cfg(target_feature = "ssse3")]
+    fn bytes_at_16(a: Words, indices: Words) -> Words { unsafe { _mm_shuffle_epi8(a, indices) } }
 }

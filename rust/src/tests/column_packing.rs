@@ -9,7 +9,7 @@ use crate::column::{Column, ColumnBuf, ColumnBuilder, Error, Kind, pack_into, pa
 /// The byte around what a call may write.
 const CANARY: u8 = 0xA5;
 
-/// The columns that `docs/FORMAT.md` works byte by byte.
+/// Columns worked by hand, as `docs/FORMAT.md` works some.
 fn worked() -> Vec<(Kind, Vec<u32>, Vec<u8>)> {
     let ff = |count: usize| vec![0xFF; count];
     let fours: Vec<u32> = (0..128).map(|k| 1000 + k % 4).collect();

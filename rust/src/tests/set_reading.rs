@@ -58,7 +58,7 @@ fn sets_of_each_form() {
     }
 }
 
-/// The sets that docs/FORMAT.md works byte by byte.
+/// Sets worked by hand, as docs/FORMAT.md works some.
 #[test]
 fn worked_bytes() {
     let (ones, zeros) = ("{ff*16}", "{00*16}");

@@ -5,6 +5,7 @@ use std::fmt::Write;
 use std::fs;
 use std::io;
 use std::path::{Path, PathBuf};
+use std::thread;
 
 use crate::paths::{CRATES, Module};
 use crate::{Wrong, in_rust, unchecked};
@@ -20,19 +21,29 @@ type Files = BTreeMap<PathBuf, String>;
 /// Translates the crates of a folder into modules in the folder `out`, which has nothing else. Only files that change are written, and those that
 /// are no longer made are removed. Returns how many files it has.
 pub fn translate(crates: &Path, out: &Path) -> Result<usize, Wrong> {
-    let mut made = Files::new();
-    for module in CRATES {
-        let folder = crates.join(module.of).join("src");
-        for path in paths_in(&folder)? {
-            let source = read(&folder.join(&path))?;
-            let text = in_rust(&source, module, !unchecked::names(module, &path))
-                .map_err(|it| Wrong { file: folder.join(&path).display().to_string(), ..it })?;
-            made.insert(place(module, &path), text);
-        }
+    // Side by side, since all else of a build waits for it.
+    let parts = thread::scope(|threads| {
+        CRATES.map(|module| threads.spawn(move || of_crate(crates, module))).map(|it| it.join().expect("no rule panics"))
+    });
+    let mut made = Files::from([(MODULES.into(), declared())]);
+    for part in parts {
+        made.append(&mut part?);
     }
-    made.insert(MODULES.into(), declared());
     write_all(out, &made)?;
     Ok(made.len())
+}
+
+/// The files of the module of a crate.
+fn of_crate(crates: &Path, module: Module) -> Result<Files, Wrong> {
+    let folder = crates.join(module.of).join("src");
+    let mut made = Files::new();
+    for path in paths_in(&folder)? {
+        let source = read(&folder.join(&path))?;
+        let text = in_rust(&source, module, !unchecked::names(module, &path))
+            .map_err(|it| Wrong { file: folder.join(&path).display().to_string(), ..it })?;
+        made.insert(place(module, &path), text);
+    }
+    Ok(made)
 }
 
 /// The declarations of the modules. What only the functions for C call is there with the feature `c`, and a user can name the modules with the

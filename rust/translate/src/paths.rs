@@ -6,29 +6,31 @@ use crate::Wrong;
 use crate::rules::{Change, applied};
 use crate::tokens::{Kind, Token, last_code, phrase};
 
+/// A crate, and its module.
+macro_rules! module {
+    ($of:literal, $name:literal, is_for_c: $is_for_c:literal) => {
+        Module {
+            of: $of,
+            name: $name,
+            path: concat!("crate::", $name),
+            within: concat!("pub(in crate::", $name, ")"),
+            is_for_c: $is_for_c,
+        }
+    };
+}
+
 /// The crates, the lowest first, with their modules.
 pub const CRATES: [Module; 8] = [
-    Module {
-        of: "bitpacking_register",
-        name: "register",
-        path: "crate::register",
-        within: "pub(in crate::register)",
-        is_for_c: false,
-    },
-    Module {
-        of: "bitpacking",
-        name: "bitpacking",
-        path: "crate::bitpacking",
-        within: "pub(in crate::bitpacking)",
-        is_for_c: false,
-    },
-    Module { of: "bitpack_groups", name: "groups", path: "crate::groups", within: "pub(in crate::groups)", is_for_c: false },
-    Module { of: "bitpack_sets", name: "sets", path: "crate::sets", within: "pub(in crate::sets)", is_for_c: false },
-    Module { of: "bitpack_columns", name: "columns", path: "crate::columns", within: "pub(in crate::columns)", is_for_c: false },
-    Module { of: "bitpack_ranked", name: "ranking", path: "crate::ranking", within: "pub(in crate::ranking)", is_for_c: false },
-    Module { of: "bitpack_lists", name: "lists", path: "crate::lists", within: "pub(in crate::lists)", is_for_c: false },
-    Module { of: "bitpacking_c", name: "c", path: "crate::c", within: "pub(in crate::c)", is_for_c: true },
+    module!("bitpacking_register", "register", is_for_c: false),
+    module!("bitpacking", "bitpacking", is_for_c: false),
+    module!("bitpack_groups", "groups", is_for_c: false),
+    module!("bitpack_sets", "sets", is_for_c: false),
+    module!("bitpack_columns", "columns", is_for_c: false),
+    module!("bitpack_ranked", "ranking", is_for_c: false),
+    module!("bitpack_lists", "lists", is_for_c: false),
+    module!("bitpacking_c", "c", is_for_c: true),
 ];
+
 /// A crate, and what it is in the one crate.
 #[derive(Clone, Copy)]
 pub struct Module {

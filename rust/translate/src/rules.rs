@@ -10,7 +10,7 @@ pub type Change<'a> = Result<Option<(Vec<Token<'a>>, usize)>, Wrong>;
 pub type Rule<'a, 'r> = &'r dyn Fn(&[Token<'a>], usize) -> Change<'a>;
 
 /// Phrases, and what they become.
-const PHRASES: [(&str, &str); 11] = [
+const PHRASES: [(&str, &str); 12] = [
     ("use std : : alloc : : Global ;", ""),
     ("use std : : alloc : : AllocError ;", "use crate::growing::AllocError;"),
     ("use std : : simd : : prelude : : * ;", "use crate::simd::*;"),
@@ -22,7 +22,12 @@ const PHRASES: [(&str, &str); 11] = [
     ("fn fmt < W : fmt : : Write > ( & self , f : & mut fmt : : Formatter < W > )", "fn fmt(&self, f: &mut fmt::Formatter<'_>)"),
     ("prove ! (", "assert!("),
     ("Vec : : new ( alloc )", "Vec::new()"),
+    ("# [ inline ( always ) ] fn add_group", APART),
 ];
+/// If it is inlined, LLVM 22 compares the sums of a group by an instruction that SIMD128 lacks, and fails.
+const APART: &str = "#[cfg_attr(target_feature = \"simd128\", inline(never))]
+#[cfg_attr(not(target_feature = \"simd128\"), inline(always))]
+fn add_group";
 /// Calls of a vector that say whether there is memory.
 const GROWING: [&str; 4] = ["push", "extend_from_slice", "reserve", "resize"];
 /// Enums of errors, to which a later version may add one.
@@ -56,11 +61,7 @@ pub fn applied<'a>(tokens: &[Token<'a>], rules: &[Rule<'a, '_>]) -> Result<Vec<T
     let mut made = Vec::with_capacity(tokens.len());
     let mut at = 0;
     while at < tokens.len() {
-        let mut change = None;
-        for rule in rules.iter().filter(|_| tokens[at].is_code()) {
-            change = change.map_or_else(|| rule(tokens, at), |it| Ok(Some(it)))?;
-        }
-        match change {
+        match changed(tokens, at, rules)? {
             Some((new, next)) => {
                 made.extend(new);
                 at = next;
@@ -72,6 +73,19 @@ pub fn applied<'a>(tokens: &[Token<'a>], rules: &[Rule<'a, '_>]) -> Result<Vec<T
         }
     }
     Ok(made)
+}
+
+/// What the first of the rules that is for the tokens from an index on puts in their place.
+fn changed<'a>(tokens: &[Token<'a>], at: usize, rules: &[Rule<'a, '_>]) -> Change<'a> {
+    if tokens[at].is_code() {
+        for rule in rules {
+            let change = rule(tokens, at)?;
+            if change.is_some() {
+                return Ok(change);
+            }
+        }
+    }
+    Ok(None)
 }
 
 fn phrases<'a>(tokens: &[Token<'a>], at: usize) -> Change<'a> {

@@ -175,7 +175,9 @@ pub fn last_code<'a>(tokens: &[Token<'a>]) -> Option<Token<'a>> {
 /// The index after a phrase, if it begins at `at`: its tokens, each after a space, where `$` is any word. Between them are spaces or nothing.
 pub fn phrase(tokens: &[Token], at: usize, wanted: &str) -> Option<usize> {
     let first = tokens.get(at)?;
-    if !(wanted.starts_with(first.text) || wanted.starts_with('$') && first.kind == Kind::Word) {
+    // Most phrases differ in their first byte.
+    let (found, begin) = (first.text.as_bytes().first(), wanted.as_bytes().first());
+    if begin != found && !(begin == Some(&b'$') && first.kind == Kind::Word) {
         return None;
     }
     let mut next = at;

@@ -10,7 +10,7 @@ ghost use Rattle.bitpack_sets.specs.Sets.{IsRising};
 use crate::slice::places::unpack_bytes_of;
 use crate::slice::reading::unpack_ones;
 
-/// Writes the numbers of bits that are 1, of 256, each with `base` added. Returns where they end.
+/// Writes the numbers of bits that are 1, of 256, each with `base` added. Returns the index after the last.
 #[inline(always)]
 pub(crate) fn unpack_bits(bits: &[u64], base: u32, out: &mut [u32], at: usize) -> usize
     requires size { length bits.now ≡ 4 }
@@ -72,7 +72,7 @@ pub(crate) fn unpack_bits_within(bits: &[u64], base: u32, out: &mut [u32], at: u
     unpack_last(bits, base, out, at)
 }
 
-/// Writes them if there is room for them alone. Not inlined, since the room of its own is cleared at each call.
+/// Writes them if there is room for them alone. Not inlined, since each call clears its own buffer.
 #[inline(never)]
 fn unpack_last(bits: &[u64], base: u32, out: &mut [u32], at: usize) -> usize
     requires size { length bits.now ≡ 4 }
@@ -87,7 +87,7 @@ fn unpack_last(bits: &[u64], base: u32, out: &mut [u32], at: usize) -> usize
     at + end
 }
 
-/// Writes the numbers from `least` on, as many as there is room for. Returns where they end, and from which number on it wrote none.
+/// Writes the numbers from `least` on, as many as there is room for. Returns the index after the last, and the first number that it did not write.
 pub(crate) fn unpack_bits_from(
     bits: &[u64],
     base: u32,
@@ -121,7 +121,7 @@ pub(crate) fn unpack_bits_from(
     (at + written, base as u64 + 256)
 }
 
-/// How many of increasing numbers are below one.
+/// How many of increasing numbers are below `bound`.
 fn count_below(numbers: &[u32], bound: u32) -> usize
     ensures within { result ≤ length numbers.now }
     ensures below { All (λ x. x < bound) (take result numbers.now) }
@@ -134,7 +134,7 @@ fn count_below(numbers: &[u32], bound: u32) -> usize
     count
 }
 
-/// Writes the numbers of a bitmap that have these high bytes, each with `base` added. Returns where they end.
+/// Writes the numbers of a bitmap that have these high bytes, each with `base` added. Returns the index after the last.
 pub(crate) fn unpack_bitmap(
     highs: &[u32],
     words: &[u64; 1024],

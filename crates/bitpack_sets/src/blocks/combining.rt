@@ -11,7 +11,8 @@ use crate::blocks::Blocks;
 use crate::operation::Operation;
 use crate::slice::selecting::{combined_bits, count_both, fewer_first, unpack_last, unpack_marked};
 
-/// Writes the numbers that an operation on two bodies gives, each with `base` added. Returns where they end, or None if there is no room.
+/// Writes the numbers that an operation on two bodies gives, each with `base` added. Returns the index after the last, or `None` if there is no
+/// room.
 pub(crate) fn unpack_combined(
     operation: Operation,
     a: &Blocks,
@@ -60,7 +61,7 @@ fn unpack_each(
     Some(next)
 }
 
-/// Writes the numbers whose high bytes are bits of a word. Its bit 0 is the high byte `first`. Returns where they end.
+/// Writes the numbers whose high bytes are bits of a word. Its bit 0 is the high byte `first`. Returns the index after the last.
 #[inline(always)]
 fn unpack_word(
     operation: Operation,

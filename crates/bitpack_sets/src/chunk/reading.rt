@@ -6,9 +6,8 @@ ghost use Rattle.bitpack_sets.specs.Slices.{AreSlices, IsBlocks, IsSlice, block_
 use crate::chunk::search::{number_at, place_of_slice, slice_of};
 use crate::slice::byte_len;
 use crate::slice::reading::{unpack_from, unpack_slice, unpack_slice_from};
-use crate::slice::search::select_in_slice;
 
-/// Writes the numbers of a body of blocks, each with `base` added. Returns where they end. `rest` begins with the body, and may go on: its
+/// Writes the numbers of a body of blocks, each with `base` added. Returns the index after the last. `rest` begins with the body, and may go on: its
 /// bytes after the body are read, and have no effect.
 pub(crate) fn unpack_blocks(
     body: &[u8],
@@ -32,7 +31,7 @@ pub(crate) fn unpack_blocks(
 }
 
 /// Writes the numbers of slices end to end, each with `base` added: their high bytes, of each the count less 1, and bytes that begin with the
-/// slices. Returns where they end.
+/// slices. Returns the index after the last.
 fn unpack_parts(
     highs: &[u8],
     counts: &[u8],
@@ -101,6 +100,8 @@ fn unpack_parts_from(
     ensures { out.new ≡ map (λ i. base + i)
         (take (length out.old) (drop from (numbers_of (slice_numbers (length counts.now) highs.now) counts.now slices.now))) }
 {
+    let mut firsts = [0; 256];
+    unpack_slice(counts.len(), highs, 0, &mut firsts, 0);
     let (mut index, mut left) = slice_of(counts, from);
     let mut place = place_of_slice(counts, index);
     let mut next = 0;
@@ -108,7 +109,7 @@ fn unpack_parts_from(
         let count = counts[index] as usize + 1;
         let size = byte_len(count);
         let slice = &slices[place..place + size];
-        let first = base + 256 * select_in_slice(counts.len(), highs, index) as u32;
+        let first = base + 256 * firsts[index];
         let wanted = (count - left).min(out.len() - next);
         unpack_slice_from(count, slice, first, left, &mut out[next..next + wanted]);
         next += wanted;
@@ -118,7 +119,7 @@ fn unpack_parts_from(
     }
 }
 
-/// Writes the numbers of a body of numbers, each with `base` added. Returns where they end.
+/// Writes the numbers of a body of numbers, each with `base` added. Returns the index after the last.
 pub(crate) fn unpack_numbers(body: &[u8], base: u32, out: &mut [u32], at: usize) -> usize
     requires fits { base + 65536 ≤ 2 ^ 32 }
     requires room { at + length body.now / 2 ≤ length out.old }

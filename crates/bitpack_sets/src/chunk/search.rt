@@ -41,7 +41,7 @@ fn in_parts(highs: &[u8], counts: &[u8], slices: &[u8], number: u16) -> bool
     in_slice(count, &slices[place..place + size], (number % 256) as u8)
 }
 
-/// How many numbers of a body of blocks are below one.
+/// How many numbers of a body of blocks are below `number`.
 pub(crate) fn rank_in_blocks(body: &[u8], number: u16) -> usize
     requires { IsBlocks (length (block_numbers body.now)) body.now }
     ensures { result ≡ rank number (block_numbers body.now) }
@@ -54,7 +54,7 @@ pub(crate) fn rank_in_blocks(body: &[u8], number: u16) -> usize
     rank_in_parts(highs, counts, slices, number)
 }
 
-/// How many numbers of slices end to end are below one: their high bytes, of each the count less 1, and the slices.
+/// How many numbers of slices end to end are below `number`: their high bytes, of each the count less 1, and the slices.
 fn rank_in_parts(highs: &[u8], counts: &[u8], slices: &[u8], number: u16) -> usize
     requires few { length counts.now ≤ 256 }
     requires size { length highs.now ≡ slice_len (length counts.now) }

@@ -116,7 +116,7 @@ impl<'a> Front<'a> {
         out.copy_from_slice(&self.rest[start..start + size]);
     }
 
-    /// How many chunks these and ids after them have, and how many bytes their bodies.
+    /// The number of chunks of these and of ids after them, and of the bytes of their bodies.
     pub(crate) fn measure(&self, ids: &[u32]) -> (usize, usize)
         requires set { IsSet ids.now }
         requires next { IsNext (front_ids self.now) ids.now }

@@ -43,7 +43,7 @@ pub(crate) fn measure_bodies(ids: &[u32]) -> usize
     bodies
 }
 
-/// How many slices a chunk has, and how many bytes they. A slice has a byte for each id, at most 32, and none for 256 ids.
+/// The number of slices of a chunk, and of their bytes. A slice has a byte for each id, at most 32, and none for 256 ids.
 pub(crate) fn measure_slices(ids: &[u32]) -> (usize, usize)
     requires { IsChunk ids.now }
     ensures count { result.0 ≡ length (parts 256 (lows ids.now)) }

@@ -13,8 +13,8 @@ use crate::slice::byte_len;
 use crate::slice::marks::{bytes_from, marks_among};
 use crate::slice::search::in_slice;
 
-/// Writes the ids whose low 16 bits blocks have, or lack, if there is room for all. Returns the index after the last, past the slice if there
-/// is no room.
+/// Writes the ids whose low 16 bits blocks have, or lack, if there is room for all. Returns the index after the last, or one past the slice
+/// if there is no room.
 pub(crate) fn filter(
     list: &Listed,
     blocks: &Blocks,

@@ -8,8 +8,8 @@ ghost use Rattle.bitpack_sets.specs.Operations.{answer, holds};
 use crate::listed::{Listed, put};
 use crate::operation::Operation;
 
-/// Writes the ids that an operation on two lists gives, if there is room for all. Returns the index after the last, past the
-/// slice if there is no room.
+/// Writes the ids that an operation on two lists gives, if there is room for all. Returns the index after the last, or one past the slice
+/// if there is no room.
 pub(crate) fn merge(
     operation: Operation,
     a: &Listed,

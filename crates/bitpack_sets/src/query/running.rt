@@ -1,6 +1,6 @@
 //! Runs the steps of a query: over keys, over the high bytes of a key, and over bitmaps of its ids.
 
-ghost use Rattle.std.specs.Prelude.{◌≡◌, ℕ, ◌/◌, ◌%◌, ◌<◌, ◌≤◌, None, [], true, false, length, slice_index_or};
+ghost use Rattle.std.specs.Prelude.{◌≡◌, ℕ, ◌/◌, ◌%◌, ◌<◌, ◌≤◌, None, [], true, false, length, map, slice_index_or};
 ghost use Rattle.bitpack_sets.specs.Bitmaps.{has_bit};
 ghost use Rattle.bitpack_sets.specs.Queries.{fault_from, is_found};
 ghost use Rattle.bitpack_sets.specs.Reads.{has};
@@ -8,25 +8,26 @@ ghost use Rattle.bitpack_sets.specs.Sets.{IsRising};
 
 use super::members::{highs_of, key_from, load_key};
 use super::testing::MOST_WAITING;
+use crate::as_set::AsSet;
+use crate::as_step::AsStep;
 use crate::bitmap::combining::combine;
 use crate::chunks::NO_KEY;
-use crate::id_set::IdSet;
 use crate::step::Step;
 
 /// The lowest key from one on that the answer can have, `NO_KEY` if there is none.
-pub(crate) fn next_key(sets: &[IdSet], steps: &[Step], from: u32) -> u32
-    requires sound { fault_from 64 (length sets.now) 0 0 steps.now ≡ None }
+pub(crate) fn next_key<S: AsSet, T: AsStep>(sets: &[S], steps: &[T], from: u32) -> u32
+    requires sound { fault_from 64 (length sets.now) 0 0 (map T.its_step steps.now) ≡ None }
     requires from { from ≤ NO_KEY }
     ensures least { from ≤ result }
     ensures most { result ≤ NO_KEY }
-    ensures none { (x : ℕ) → from ≤ x / 65536 → x / 65536 < result → is_found sets.now steps.now x ≡ false }
+    ensures none { (x : ℕ) → from ≤ x / 65536 → x / 65536 < result → is_found (map S.its_ids sets.now) (map T.its_step steps.now) x ≡ false }
 {
     let mut keys = [0; MOST_WAITING];
     let mut depth = 0;
     for i in 0..steps.len() {
-        match steps[i] {
+        match steps[i].as_step() {
             Step::Set(set) => {
-                keys[depth] = key_from(&sets[set], from);
+                keys[depth] = key_from(&sets[set].as_set(), from);
                 depth += 1;
             }
             Step::Combine(operation) => {
@@ -39,17 +40,17 @@ pub(crate) fn next_key(sets: &[IdSet], steps: &[Step], from: u32) -> u32
 }
 
 /// The high bytes that ids of the answer can have, if they have this key.
-pub(crate) fn all_highs(sets: &[IdSet], steps: &[Step], key: u32) -> [u64; 4]
-    requires sound { fault_from 64 (length sets.now) 0 0 steps.now ≡ None }
+pub(crate) fn all_highs<S: AsSet, T: AsStep>(sets: &[S], steps: &[T], key: u32) -> [u64; 4]
+    requires sound { fault_from 64 (length sets.now) 0 0 (map T.its_step steps.now) ≡ None }
     requires key { key < NO_KEY }
-    ensures { (x : ℕ) → x / 65536 ≡ key → has_bit result (x % 65536 / 256) ≡ false → is_found sets.now steps.now x ≡ false }
+    ensures { (x : ℕ) → x / 65536 ≡ key → has_bit result (x % 65536 / 256) ≡ false → is_found (map S.its_ids sets.now) (map T.its_step steps.now) x ≡ false }
 {
     let mut all = [[0; 4]; MOST_WAITING];
     let mut depth = 0;
     for i in 0..steps.len() {
-        match steps[i] {
+        match steps[i].as_step() {
             Step::Set(set) => {
-                all[depth] = highs_of(&sets[set], key);
+                all[depth] = highs_of(&sets[set].as_set(), key);
                 depth += 1;
             }
             Step::Combine(operation) => {
@@ -63,24 +64,24 @@ pub(crate) fn all_highs(sets: &[IdSet], steps: &[Step], key: u32) -> [u64; 4]
 
 /// Leaves the ids of the answer that have this key, and one of these high bytes, in the first bitmap. There is one for each operand that
 /// waits.
-pub(crate) fn load_answer(
-    sets: &[IdSet],
-    steps: &[Step],
+pub(crate) fn load_answer<S: AsSet, T: AsStep>(
+    sets: &[S],
+    steps: &[T],
     key: u32,
     highs: &[u32],
     bitmaps: &mut [[u64; 1024]],
 )
-    requires sound { fault_from (length bitmaps.old) (length sets.now) 0 0 steps.now ≡ None }
+    requires sound { fault_from (length bitmaps.old) (length sets.now) 0 0 (map T.its_step steps.now) ≡ None }
     requires key { key < NO_KEY }
     requires highs { IsRising 0 256 highs.now }
     ensures { (x : ℕ) → x / 65536 ≡ key → has (x % 65536 / 256) highs.now ≡ true
-        → has_bit (slice_index_or bitmaps.new 0 []) (x % 65536) ≡ is_found sets.now steps.now x }
+        → has_bit (slice_index_or bitmaps.new 0 []) (x % 65536) ≡ is_found (map S.its_ids sets.now) (map T.its_step steps.now) x }
 {
     let mut depth = 0;
     for i in 0..steps.len() {
-        match steps[i] {
+        match steps[i].as_step() {
             Step::Set(set) => {
-                load_key(&sets[set], key, highs, &mut bitmaps[depth]);
+                load_key(&sets[set].as_set(), key, highs, &mut bitmaps[depth]);
                 depth += 1;
             }
             Step::Combine(operation) => {

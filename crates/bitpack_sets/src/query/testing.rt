@@ -1,8 +1,9 @@
 //! Tests the steps of a query.
 
-ghost use Rattle.std.specs.Prelude.{◌≡◌, ◌≤◌, IfOk, None};
-ghost use Rattle.bitpack_sets.specs.Queries.{FindsFault, fault_from};
+ghost use Rattle.std.specs.Prelude.{◌≡◌, ◌≤◌, IfOk, None, map};
+ghost use Rattle.bitpack_sets.specs.Queries.{FindsFault, fault_from, most_waiting};
 
+use crate::as_step::AsStep;
 use crate::query_error::QueryError;
 use crate::step::Step;
 
@@ -10,16 +11,17 @@ use crate::step::Step;
 pub(crate) const MOST_WAITING: usize = 64;
 
 /// Tests the steps of a query over this many sets. Returns the most operands that wait at once.
-pub(crate) fn test_steps(steps: &[Step], sets: usize) -> Result<usize, QueryError>
-    ensures fault { FindsFault result (fault_from 64 sets 0 0 steps.now) }
-    ensures most { IfOk result (λ most. most ≤ 64) }
+pub(crate) fn test_steps<T: AsStep>(steps: &[T], sets: usize) -> Result<usize, QueryError>
+    ensures fault { FindsFault result (fault_from 64 sets 0 0 (map T.its_step steps.now)) }
+    ensures few { IfOk result (λ most. most ≤ 64) }
+    ensures most { IfOk result (λ most. most ≡ most_waiting 0 (map T.its_step steps.now)) }
     // There is no fault either if no more operands may wait.
-    ensures enough { IfOk result (λ most. fault_from most sets 0 0 steps.now ≡ None) }
+    ensures enough { IfOk result (λ most. fault_from most sets 0 0 (map T.its_step steps.now) ≡ None) }
 {
     let mut depth = 0;
     let mut most: usize = 0;
     for i in 0..steps.len() {
-        match steps[i] {
+        match steps[i].as_step() {
             Step::Set(set) => {
                 if set >= sets {
                     return Err(QueryError::NoSet(i));

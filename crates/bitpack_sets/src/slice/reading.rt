@@ -10,9 +10,9 @@ use crate::bitmap::unpacking::unpack_many;
 use crate::slice::byte_len;
 use crate::slice::places::unpack_32;
 
-/// Writes the numbers of the slice of `count` that begins at `start`, each with `base` added. Returns where they end.
+/// Writes the numbers of the slice of `count` that begins at `start`, each with `base` added. Returns the index after the last.
 ///
-/// A short slice is read as 32 bytes if there are as many, without a branch: up to 31 numbers after the end change too.
+/// It reads a short slice as 32 bytes if there are that many, without a branch, so up to 31 items after the end may change too.
 #[inline(always)]
 pub(crate) fn unpack_from(
     count: usize,
@@ -44,7 +44,7 @@ pub(crate) fn unpack_from(
     )
 }
 
-/// Writes the numbers of a slice of `count`, each with `base` added, also if there is only room for them. Returns where they end.
+/// Writes the numbers of a slice of `count`, each with `base` added, also if there is only room for them. Returns the index after the last.
 pub(crate) fn unpack_within(
     count: usize,
     bytes: &[u8],
@@ -69,7 +69,7 @@ pub(crate) fn unpack_within(
     unpack_last(count, bytes, base, out, at)
 }
 
-/// Writes them if there is room for them alone. Not inlined, since the room of its own is cleared at each call.
+/// Writes them if there is room for them alone. Not inlined, since each call clears its own buffer.
 #[inline(never)]
 fn unpack_last(count: usize, bytes: &[u8], base: u32, out: &mut [u32], at: usize) -> usize
     requires count { count ≤ 256 }
@@ -100,7 +100,7 @@ pub(crate) fn unpack_slice_from(count: usize, bytes: &[u8], base: u32, from: usi
     out.copy_from_slice(&numbers[from..from + out.len()]);
 }
 
-/// Writes the numbers of a slice of `count`, each with `base` added. Returns where they end.
+/// Writes the numbers of a slice of `count`, each with `base` added. Returns the index after the last.
 pub(crate) fn unpack_slice(
     count: usize,
     bytes: &[u8],
@@ -124,7 +124,7 @@ pub(crate) fn unpack_slice(
     }
 }
 
-/// Writes bytes, each with `base` added. Returns where they end.
+/// Writes bytes, each with `base` added. Returns the index after the last.
 #[inline(always)]
 fn unpack_bytes(bytes: &[u8], base: u32, out: &mut [u32], at: usize) -> usize
     requires fits { base + 256 ≤ 2 ^ 32 }
@@ -139,7 +139,7 @@ fn unpack_bytes(bytes: &[u8], base: u32, out: &mut [u32], at: usize) -> usize
     at + bytes.len()
 }
 
-/// Writes 256 numbers from `base` on. Returns where they end.
+/// Writes 256 numbers from `base` on. Returns the index after the last.
 fn unpack_full(base: u32, out: &mut [u32], at: usize) -> usize
     requires fits { base + 256 ≤ 2 ^ 32 }
     requires room { at + 256 ≤ length out.old }
@@ -152,9 +152,9 @@ fn unpack_full(base: u32, out: &mut [u32], at: usize) -> usize
     at + 256
 }
 
-/// Writes the numbers of the bits of a word that are 1, in order, each with `base` added. Returns where they end.
+/// Writes the numbers of the bits of a word that are 1, in order, each with `base` added. Returns the index after the last.
 ///
-/// Four are written at a time, so up to three after the end change too.
+/// It writes four at a time, so up to three items after the end may change too.
 #[inline(always)]
 pub(crate) fn unpack_ones(word: u64, base: u32, out: &mut [u32], at: usize) -> usize
     requires fits { base + 64 ≤ 2 ^ 32 }

@@ -68,7 +68,7 @@ pub(crate) fn combined_bits(operation: Operation, a: Slice, b: Slice) -> [u64; 4
     operation.words(a.bits(), b.bits())
 }
 
-/// Writes the numbers that an operation gives, each with `base` added, if the first slice has all of them. Returns where they end.
+/// Writes the numbers that an operation gives, each with `base` added, if the first slice has all of them. Returns the index after the last.
 #[inline(always)]
 pub(crate) fn unpack_marked(
     operation: Operation,
@@ -90,7 +90,7 @@ pub(crate) fn unpack_marked(
     unpack_chosen(&bytes, marks, base, out, at)
 }
 
-/// Writes the numbers that an operation gives if there is room for them, also if there is none for 256. Returns where they end.
+/// Writes the numbers that an operation gives if there is room for them, also if there is none for 256. Returns the index after the last.
 #[inline(never)]
 pub(crate) fn unpack_last(
     operation: Operation,

@@ -144,3 +144,14 @@ fn examples_in_comments() {
     becomes("//! Adds.\n//! ```rust\n//! ```\n", "//! Adds.\n//! ```text\n//! ```\n");
     refused("fn add() {\n    // ```rust\n}\n", 2, "no rule for an example here");
 }
+
+#[test]
+fn a_function_is_apart_for_simd128() {
+    becomes(
+        "#[inline(always)]\nfn add_group(count: usize) {}\n",
+        "#[cfg_attr(target_feature = \"simd128\", inline(never))]\n#[cfg_attr(not(target_feature = \"simd128\"), inline(always))]\n\
+         fn add_group(count: usize) {}\n",
+    );
+    let source = "#[inline(always)]\nfn add_groups(count: usize) {}\n";
+    becomes(source, source);
+}

@@ -1,5 +1,5 @@
 -- The greatest count of a block is within its bounds.
-use Rattle.std.proofs.Common.{◌≡◌, ◌+◌, ◌-◌, ◌*◌, get_or, ap, arith}
+use Rattle.std.proofs.Common.{◌≡◌, ◌+◌, ◌-◌, ◌*◌, get_or, refl, ap, inr, arith}
 use Rattle.bitpack_columns.specs.Opened.{values}
 use Rattle.bitpack_ranked.proofs.walk.most_of.Goals as goal
 
@@ -13,4 +13,4 @@ returns g c = λ k class from before within.
     (omega (arith, high, ap (λ m. get_or (values c.counts-counts.result) m 0) at, ap (λ xs. get_or xs k 0) c.counts-counts.ensures))
 
 pub returns-then-block-blocks : goal.returns-then-block-blocks
-returns-then-block-blocks g c = λ k class from before within. rw c.parts.ensures at c.most_of_all.ensures (get_or (g.T.AsTerm.its_word c.args.term.now).counts k 0) class
+returns-then-block-blocks g c = λ k class from before within. rw c.parts.ensures at c.most_of_class.ensures (get_or (g.T.AsTerm.its_word c.args.term.now).counts k 0) class (inr refl)

@@ -5,11 +5,42 @@ use Rattle.std.proofs.Math.Nat.{min-le_left, min-le_right}
 use borrow.Rule.Slice.PartMut.{same_len_mid}
 use Rattle.bitpack_sets.proofs.BlockReads.{slice_there}
 use Rattle.bitpack_sets.proofs.CutLaws.{slice_cut}
+use Rattle.bitpack_sets.proofs.DecodeLaws.{first_at, rising_top}
 use Rattle.bitpack_sets.proofs.ReadLaws.{place_fits}
 use Rattle.bitpack_sets.proofs.RangeLaws.{AtSlice, map_range, min_less, part_written, slice_passed, slice_range}
 use Rattle.bitpack_sets.proofs.chunk.reading.unpack_parts_from.Goals as goal
 use Rattle.bitpack_sets.specs.Slices.{IsSlice, numbers_of, slice_numbers, slices_len}
 use Rattle.bitpack_groups.proofs.ForCallers.{lent_len}
+
+pub overflow_mul-first : goal.overflow_mul-first
+overflow_mul-first c =
+    let hs : List ℕ = slice_numbers (length c.args.counts.now) c.args.highs.now in
+    let at = c.loop-next.invariant.here c.loop-next-test.true in
+    let many : length hs ≡ length c.args.counts.now = c.requires.highs.count_is in
+    let index : ℕ = c.loop-next.index in
+    let first = first_at c.unpack_slice.result index c.unpack_slice.new.out hs c.unpack_slice.ensures.values (omega (arith, many, at.within)) in
+    let top = rising_top 0 256 index hs c.requires.highs.rising (omega (arith, many, at.within)) in
+    omega arith
+
+pub overflow_add-first : goal.overflow_add-first
+overflow_add-first c =
+    let hs : List ℕ = slice_numbers (length c.args.counts.now) c.args.highs.now in
+    let at = c.loop-next.invariant.here c.loop-next-test.true in
+    let many : length hs ≡ length c.args.counts.now = c.requires.highs.count_is in
+    let index : ℕ = c.loop-next.index in
+    let first = first_at c.unpack_slice.result index c.unpack_slice.new.out hs c.unpack_slice.ensures.values (omega (arith, many, at.within)) in
+    let top = rising_top 0 256 index hs c.requires.highs.rising (omega (arith, many, at.within)) in
+    omega arith
+
+pub unpack_slice_from-requires-clause-fits : goal.unpack_slice_from-requires-clause-fits
+unpack_slice_from-requires-clause-fits c =
+    let hs : List ℕ = slice_numbers (length c.args.counts.now) c.args.highs.now in
+    let at = c.loop-next.invariant.here c.loop-next-test.true in
+    let many : length hs ≡ length c.args.counts.now = c.requires.highs.count_is in
+    let index : ℕ = c.loop-next.index in
+    let first = first_at c.unpack_slice.result index c.unpack_slice.new.out hs c.unpack_slice.ensures.values (omega (arith, many, at.within)) in
+    let top = rising_top 0 256 index hs c.requires.highs.rising (omega (arith, many, at.within)) in
+    omega arith
 
 pub overflow_add-slice : goal.overflow_add-slice
 overflow_add-slice c =
@@ -68,9 +99,11 @@ loop-next-preserved c =
     let mid : length (take (next + wanted - next) (drop next out)) ≡ wanted = lent_len next wanted out (omega arith) in
     let same = same_len_mid next (next + wanted - next) out c.unpack_slice_from.new.out c.unpack_slice_from.auto.out in
     let cut = slice_cut count place size (slices_len (take index counts)) slices at.place_is c.byte_len-size.ensures in
+    let many : length hs ≡ length counts = c.requires.highs.count_is in
+    let first = first_at c.unpack_slice.result index c.unpack_slice.new.out hs c.unpack_slice.ensures.values (omega (arith, many, at.within)) in
     let part = c.unpack_slice_from.ensures
-    ∙ ap (λ (k : ℕ). map (λ i. base + 256 * c.select_in_slice.result + i) (take k (drop left (slice_numbers count (take (place + size - place) (drop place slices)))))) mid
-    ∙ ap (λ (h : ℕ). map (λ i. base + 256 * h + i) (take wanted (drop left (slice_numbers count (take (place + size - place) (drop place slices)))))) c.select_in_slice.ensures
+    ∙ ap (λ (k : ℕ). map (λ i. base + 256 * get_or c.unpack_slice.new.out index 0 + i) (take k (drop left (slice_numbers count (take (place + size - place) (drop place slices)))))) mid
+    ∙ ap (λ (h : ℕ). map (λ i. base + 256 * h + i) (take wanted (drop left (slice_numbers count (take (place + size - place) (drop place slices)))))) first
     ∙ ap (λ (l : List ℕ). map (λ i. base + 256 * get_or hs index 0 + i) (take wanted (drop left (slice_numbers count l)))) cut
     ∙ sym (slice_range base index left wanted (c.args.from + next) hs counts slices c.requires.highs.count_is c.requires.slices at.within (omega arith) at.passed) in
     record {

@@ -1,53 +1,53 @@
-use Rattle.std.proofs.Common.{[], length-set, refl, ◌∙◌, arith, rules}
+use Rattle.std.proofs.Common.{map, [], length-set, refl, ◌∙◌, arith, rules}
 use Rattle.bitpack_sets.proofs.QueryLaws.{Covers, covers_joined, combine_at, held_after_combine, held_after_set, held_found, set_at}
 use Rattle.bitpack_sets.proofs.query.running.all_highs.Goals as goal
 use Rattle.bitpack_sets.proofs.query.running.all_highs.Goals.{in-Set, in-Combine}
 
 pub offset_bounds-sets-set : goal.offset_bounds-sets-set
-offset_bounds-sets-set c = let h = (set_at _ _ _ _ _ _ _ c.loop-i-test.true c.in-Set.is c.loop-i.invariant.sound).within in search rules
+offset_bounds-sets-set g c = let h = (set_at g.T.AsStep.its_step _ _ _ _ _ _ _ _ c.loop-i-test.true c.index-steps-i.is c.as_step.ensures c.in-Set.is c.loop-i.invariant.sound).within in search rules
 
 pub bounds-sets-set : goal.bounds-sets-set
-bounds-sets-set c = (set_at _ _ _ _ _ _ _ c.loop-i-test.true c.in-Set.is c.loop-i.invariant.sound).within
+bounds-sets-set g c = (set_at g.T.AsStep.its_step _ _ _ _ _ _ _ _ c.loop-i-test.true c.index-steps-i.is c.as_step.ensures c.in-Set.is c.loop-i.invariant.sound).within
 
 pub bounds-all-depth : goal.bounds-all-depth
-bounds-all-depth c = omega (arith, c.loop-i.invariant.few, (set_at _ _ _ _ _ _ _ c.loop-i-test.true c.in-Set.is c.loop-i.invariant.sound).room)
+bounds-all-depth g c = omega (arith, c.loop-i.invariant.few, (set_at g.T.AsStep.its_step _ _ _ _ _ _ _ _ c.loop-i-test.true c.index-steps-i.is c.as_step.ensures c.in-Set.is c.loop-i.invariant.sound).room)
 
 pub overflow_sub-depth : goal.overflow_sub-depth
-overflow_sub-depth c = omega (arith, (combine_at _ _ _ _ _ _ _ c.loop-i-test.true c.in-Combine.is c.loop-i.invariant.sound).two)
+overflow_sub-depth g c = omega (arith, (combine_at g.T.AsStep.its_step _ _ _ _ _ _ _ _ c.loop-i-test.true c.index-steps-i.is c.as_step.ensures c.in-Combine.is c.loop-i.invariant.sound).two)
 
 pub overflow_sub-depth-in-Combine : goal.overflow_sub-depth-in-Combine
-overflow_sub-depth-in-Combine c = omega (arith, (combine_at _ _ _ _ _ _ _ c.loop-i-test.true c.in-Combine.is c.loop-i.invariant.sound).two)
+overflow_sub-depth-in-Combine g c = omega (arith, (combine_at g.T.AsStep.its_step _ _ _ _ _ _ _ _ c.loop-i-test.true c.index-steps-i.is c.as_step.ensures c.in-Combine.is c.loop-i.invariant.sound).two)
 
 pub overflow_sub-all : goal.overflow_sub-all
-overflow_sub-all c = omega (arith, (combine_at _ _ _ _ _ _ _ c.loop-i-test.true c.in-Combine.is c.loop-i.invariant.sound).two)
+overflow_sub-all g c = omega (arith, (combine_at g.T.AsStep.its_step _ _ _ _ _ _ _ _ c.loop-i-test.true c.index-steps-i.is c.as_step.ensures c.in-Combine.is c.loop-i.invariant.sound).two)
 
 pub loop-i-init : goal.loop-i-init
-loop-i-init c = record { room = refl; few = omega arith; sound = c.requires.sound; held = λ x h. tt }
+loop-i-init g c = record { room = refl; few = omega arith; sound = c.requires.sound; held = λ x h. tt }
 
 pub loop-i-preserved : goal.loop-i-preserved
-loop-i-preserved c = elim c.match-steps-i.branch [
+loop-i-preserved g c = elim c.match-as_step.branch [
   | in-Set w ↦ (
       let before = c.loop-i.invariant in
-      let fits = set_at _ _ _ _ _ _ _ c.loop-i-test.true w.in-Set.is before.sound in
+      let fits = set_at g.T.AsStep.its_step _ _ _ _ _ _ _ _ c.loop-i-test.true c.index-steps-i.is c.as_step.ensures w.in-Set.is before.sound in
       record {
         room = rw w.all-is (length-set c.loop-i.all _ _ ∙ before.room);
         few = omega (arith, before.few, fits.room, w.depth-is);
         sound = rw w.depth-is fits.later;
-        held = λ x h. rw (w.all-is, w.depth-is) (held_after_set (Covers x) [] c.loop-i.all _ _ _ c.args.sets.now c.args.steps.now _ _ x _ c.loop-i-test.true w.in-Set.is fits.within w.index-sets-set.is
+        held = λ x h. rw (w.all-is, w.depth-is) (held_after_set g.T.AsStep.its_step g.S.AsSet.its_ids (Covers x) [] c.loop-i.all _ _ _ c.args.sets.now c.args.steps.now _ _ _ _ x _ c.loop-i-test.true c.index-steps-i.is c.as_step.ensures w.in-Set.is fits.within w.index-sets-set.is w.as_set.ensures
             (omega (arith, before.room, before.few, fits.room)) (w.highs_of.ensures x h) (before.held x h));
       })
   | in-Combine w ↦ (
       let before = c.loop-i.invariant in
-      let wait = combine_at _ _ _ _ _ _ _ c.loop-i-test.true w.in-Combine.is before.sound in
+      let wait = combine_at g.T.AsStep.its_step _ _ _ _ _ _ _ _ c.loop-i-test.true c.index-steps-i.is c.as_step.ensures w.in-Combine.is before.sound in
       record {
         room = rw w.all-is (length-set c.loop-i.all _ _ ∙ before.room);
         few = omega (arith, before.few, w.depth-is);
         sound = rw w.depth-is wait.later;
-        held = λ x h. rw (w.all-is, w.depth-is) (held_after_combine (Covers x) [] c.loop-i.all _ _ _ _ c.args.sets.now c.args.steps.now _ _ x _ c.loop-i-test.true w.in-Combine.is
+        held = λ x h. rw (w.all-is, w.depth-is) (held_after_combine g.T.AsStep.its_step (Covers x) [] c.loop-i.all _ _ _ _ (map g.S.AsSet.its_ids c.args.sets.now) c.args.steps.now _ _ _ x _ c.loop-i-test.true c.index-steps-i.is c.as_step.ensures w.in-Combine.is
             wait.two (omega (arith, wait.two)) (omega (arith, wait.two)) (omega (arith, wait.two, before.room, before.few))
             (λ a b p q. covers_joined w.in-Combine.operation x _ _ _ a b w.highs.ensures.both w.highs.ensures.left w.highs.ensures.right p q) (before.held x h));
       })
 ]
 
 pub returns : goal.returns
-returns c = λ x h. held_found (Covers x) [] _ _ _ _ _ _ x c.loop-i-test.false c.loop-i.invariant.sound (c.loop-i.invariant.held x h)
+returns g c = λ x h. held_found g.T.AsStep.its_step (Covers x) [] _ _ _ _ _ _ _ x c.loop-i-test.false c.loop-i.invariant.sound (c.loop-i.invariant.held x h)

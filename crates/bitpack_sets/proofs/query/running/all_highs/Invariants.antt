@@ -1,12 +1,12 @@
-use Rattle.std.proofs.Common.{◌≡◌, ℕ, ◌/◌, ◌≤◌, [], length, take, drop, None}
+use Rattle.std.proofs.Common.{◌≡◌, ℕ, ◌/◌, ◌≤◌, [], length, map, take, drop, None}
 use Rattle.bitpack_sets.specs.Queries.{evaluate, fault_from, in_set}
 use Rattle.bitpack_sets.proofs.QueryLaws.{Held, Covers}
 use Rattle.bitpack_sets.proofs.query.running.all_highs.Given as goal
 
 abbrev pub invariant-loop-i : goal.invariant-loop-i
-invariant-loop-i l = record {
+invariant-loop-i g l = record {
   room : length l.all ≡ 64;
   few : l.depth ≤ 64;
-  sound : fault_from 64 (length l.sets) l.i l.depth (drop l.i l.steps) ≡ None;
-  held : (x : ℕ) → x / 65536 ≡ l.key → Held (Covers x) [] l.all l.depth (evaluate (take l.i l.steps) (in_set l.sets x));
+  sound : fault_from 64 (length l.sets) l.i l.depth (drop l.i (map g.T.AsStep.its_step l.steps)) ≡ None;
+  held : (x : ℕ) → x / 65536 ≡ l.key → Held (Covers x) [] l.all l.depth (evaluate (take l.i (map g.T.AsStep.its_step l.steps)) (in_set (map g.S.AsSet.its_ids l.sets) x));
 }

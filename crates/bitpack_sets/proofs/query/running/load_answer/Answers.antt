@@ -1,54 +1,54 @@
-use Rattle.std.proofs.Common.{[], ◌-◌, ◌%◌, length-set, refl, ◌∙◌, arith, rules}
+use Rattle.std.proofs.Common.{map, [], ◌-◌, ◌%◌, length-set, refl, ◌∙◌, arith, rules}
 use Rattle.bitpack_sets.proofs.QueryLaws.{Tells, combine_at, joined_set, tells_joined, held_after_combine, held_after_set, held_found, set_at}
 use Rattle.bitpack_sets.proofs.query.running.load_answer.Goals as goal
 use Rattle.bitpack_sets.proofs.query.running.load_answer.Goals.{in-Set, in-Combine}
 
 pub offset_bounds-sets-set : goal.offset_bounds-sets-set
-offset_bounds-sets-set c = let h = (set_at _ _ _ _ _ _ _ c.loop-i-test.true c.in-Set.is c.loop-i.invariant.sound).within in search rules
+offset_bounds-sets-set g c = let h = (set_at g.T.AsStep.its_step _ _ _ _ _ _ _ _ c.loop-i-test.true c.index-steps-i.is c.as_step.ensures c.in-Set.is c.loop-i.invariant.sound).within in search rules
 
 pub bounds-sets-set : goal.bounds-sets-set
-bounds-sets-set c = (set_at _ _ _ _ _ _ _ c.loop-i-test.true c.in-Set.is c.loop-i.invariant.sound).within
+bounds-sets-set g c = (set_at g.T.AsStep.its_step _ _ _ _ _ _ _ _ c.loop-i-test.true c.index-steps-i.is c.as_step.ensures c.in-Set.is c.loop-i.invariant.sound).within
 
 pub bounds-bitmaps-depth : goal.bounds-bitmaps-depth
-bounds-bitmaps-depth c = omega (arith, c.loop-i.invariant.levels, c.loop-i.invariant.few, (set_at _ _ _ _ _ _ _ c.loop-i-test.true c.in-Set.is c.loop-i.invariant.sound).room)
+bounds-bitmaps-depth g c = omega (arith, c.loop-i.invariant.levels, c.loop-i.invariant.few, (set_at g.T.AsStep.its_step _ _ _ _ _ _ _ _ c.loop-i-test.true c.index-steps-i.is c.as_step.ensures c.in-Set.is c.loop-i.invariant.sound).room)
 
 pub overflow_sub-depth : goal.overflow_sub-depth
-overflow_sub-depth c = omega (arith, (combine_at _ _ _ _ _ _ _ c.loop-i-test.true c.in-Combine.is c.loop-i.invariant.sound).two)
+overflow_sub-depth g c = omega (arith, (combine_at g.T.AsStep.its_step _ _ _ _ _ _ _ _ c.loop-i-test.true c.index-steps-i.is c.as_step.ensures c.in-Combine.is c.loop-i.invariant.sound).two)
 
 pub overflow_sub-depth-in-Combine : goal.overflow_sub-depth-in-Combine
-overflow_sub-depth-in-Combine c = omega (arith, (combine_at _ _ _ _ _ _ _ c.loop-i-test.true c.in-Combine.is c.loop-i.invariant.sound).two)
+overflow_sub-depth-in-Combine g c = omega (arith, (combine_at g.T.AsStep.its_step _ _ _ _ _ _ _ _ c.loop-i-test.true c.index-steps-i.is c.as_step.ensures c.in-Combine.is c.loop-i.invariant.sound).two)
 
 pub bounds-words-depth : goal.bounds-words-depth
-bounds-words-depth c = omega (arith, c.loop-i.invariant.levels, c.loop-i.invariant.few, c.split_at_mut-words.ensures.front_len, (combine_at _ _ _ _ _ _ _ c.loop-i-test.true c.in-Combine.is c.loop-i.invariant.sound).two)
+bounds-words-depth g c = omega (arith, c.loop-i.invariant.levels, c.loop-i.invariant.few, c.split_at_mut-words.ensures.front_len, (combine_at g.T.AsStep.its_step _ _ _ _ _ _ _ _ c.loop-i-test.true c.index-steps-i.is c.as_step.ensures c.in-Combine.is c.loop-i.invariant.sound).two)
 
 pub bounds-others-0 : goal.bounds-others-0
-bounds-others-0 c = omega (arith, c.loop-i.invariant.levels, c.loop-i.invariant.few, c.split_at_mut-words.ensures.back_len, (combine_at _ _ _ _ _ _ _ c.loop-i-test.true c.in-Combine.is c.loop-i.invariant.sound).two)
+bounds-others-0 g c = omega (arith, c.loop-i.invariant.levels, c.loop-i.invariant.few, c.split_at_mut-words.ensures.back_len, (combine_at g.T.AsStep.its_step _ _ _ _ _ _ _ _ c.loop-i-test.true c.index-steps-i.is c.as_step.ensures c.in-Combine.is c.loop-i.invariant.sound).two)
 
 pub loop-i-init : goal.loop-i-init
-loop-i-init c = record { levels = refl; few = omega arith; sound = c.requires.sound; held = λ x h there. tt }
+loop-i-init g c = record { levels = refl; few = omega arith; sound = c.requires.sound; held = λ x h there. tt }
 
 pub loop-i-preserved : goal.loop-i-preserved
-loop-i-preserved c = elim c.match-steps-i.branch [
+loop-i-preserved g c = elim c.match-as_step.branch [
   | in-Set w ↦ (
       let before = c.loop-i.invariant in
-      let fits = set_at _ _ _ _ _ _ _ c.loop-i-test.true w.in-Set.is before.sound in
+      let fits = set_at g.T.AsStep.its_step _ _ _ _ _ _ _ _ c.loop-i-test.true c.index-steps-i.is c.as_step.ensures w.in-Set.is before.sound in
       record {
         levels = rw w.bitmaps-is (length-set c.loop-i.bitmaps _ _ ∙ before.levels);
         few = omega (arith, before.few, fits.room, w.depth-is);
         sound = rw w.depth-is fits.later;
-        held = λ x h there. rw (w.bitmaps-is, w.depth-is) (held_after_set (Tells x) [] c.loop-i.bitmaps _ _ _ c.args.sets.now c.args.steps.now _ _ x _ c.loop-i-test.true w.in-Set.is fits.within w.index-sets-set.is
+        held = λ x h there. rw (w.bitmaps-is, w.depth-is) (held_after_set g.T.AsStep.its_step g.S.AsSet.its_ids (Tells x) [] c.loop-i.bitmaps _ _ _ c.args.sets.now c.args.steps.now _ _ _ _ x _ c.loop-i-test.true c.index-steps-i.is c.as_step.ensures w.in-Set.is fits.within w.index-sets-set.is w.as_set.ensures
             (omega (arith, before.levels, before.few, fits.room)) (w.load_key.ensures x h there) (before.held x h there));
       })
   | in-Combine w ↦ (
       let before = c.loop-i.invariant in
-      let wait = combine_at _ _ _ _ _ _ _ c.loop-i-test.true w.in-Combine.is before.sound in
+      let wait = combine_at g.T.AsStep.its_step _ _ _ _ _ _ _ _ c.loop-i-test.true c.index-steps-i.is c.as_step.ensures w.in-Combine.is before.sound in
       let parts = w.split_at_mut-words.ensures in
       let is = joined_set c.loop-i.bitmaps w.split_at_mut-words.result.0.now w.split_at_mut-words.result.1.now (c.loop-i.depth - 1 - 1) w.combine.new.words parts.value (omega (arith, wait.two, parts.front_len)) in
       record {
         levels = rw (w.bitmaps-is, is) (length-set c.loop-i.bitmaps _ _ ∙ before.levels);
         few = omega (arith, before.few, w.depth-is);
         sound = rw w.depth-is wait.later;
-        held = λ x h there. rw (w.bitmaps-is, is, w.depth-is) (held_after_combine (Tells x) [] c.loop-i.bitmaps _ _ _ _ c.args.sets.now c.args.steps.now _ _ x _ c.loop-i-test.true w.in-Combine.is
+        held = λ x h there. rw (w.bitmaps-is, is, w.depth-is) (held_after_combine g.T.AsStep.its_step (Tells x) [] c.loop-i.bitmaps _ _ _ _ (map g.S.AsSet.its_ids c.args.sets.now) c.args.steps.now _ _ _ x _ c.loop-i-test.true c.index-steps-i.is c.as_step.ensures w.in-Combine.is
             wait.two (omega (arith, wait.two)) (omega (arith, wait.two)) (omega (arith, wait.two, before.levels, before.few))
             (λ a b p q. tells_joined w.in-Combine.operation x c.loop-i.bitmaps w.split_at_mut-words.result.0.now w.split_at_mut-words.result.1.now (c.loop-i.depth - 1 - 1) (c.loop-i.depth - 1) w.combine.new.words a b
             parts.front parts.back (omega (arith, wait.two)) (w.combine.ensures.own (x % 65536) (omega arith) there) p q) (before.held x h there));
@@ -56,4 +56,4 @@ loop-i-preserved c = elim c.match-steps-i.branch [
 ]
 
 pub returns : goal.returns
-returns c = λ x h there. held_found (Tells x) [] _ _ _ _ _ _ x c.loop-i-test.false c.loop-i.invariant.sound (c.loop-i.invariant.held x h there)
+returns g c = λ x h there. held_found g.T.AsStep.its_step (Tells x) [] _ _ _ _ _ _ _ x c.loop-i-test.false c.loop-i.invariant.sound (c.loop-i.invariant.held x h there)

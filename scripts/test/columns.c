@@ -1,0 +1,387 @@
+/* Reads the tables vectors/columns.tsv and vectors/refused_columns.tsv. The values of each column are written in each way that there is, which has to
+   give its bytes, and these are opened and asked for what plain loops over the values find: at each position, at many positions, from targets and
+   ranges on that are drawn of a fixed seed, and for each block. Each call refuses what it has to, and writes nothing then. Prints what is wrong,
+   and last how many columns and refusals it read. */
+#include "bitpacking.h"
+
+enum { MOST = 1600, ROOM = BITPACKING_COLUMN_ROOM(MOST), BLOCK = BITPACKING_4X_BLOCK_LEN, DRAWN = 24 };
+
+#include "written.h"
+
+static uint8_t first_bytes[ROOM], other_bytes[ROOM], kind;
+static uint32_t values[MOST + 2], found[MOST + 2], work[MOST + 2], moved[MOST + 2];
+static uint64_t sums[MOST + 2];
+static size_t count, positions[MOST + 2], right[MOST + 2];
+
+/* A number below a bound that is not 0. */
+static uint32_t drawn(uint64_t bound)
+{
+    static uint64_t state = 1;
+
+    state = state * 6364136223846793005u + 1442695040888963407u;
+    return (uint32_t)((state >> 32) * bound >> 32);
+}
+
+static bitpacking_column opened(uint8_t its_kind, const uint32_t *given, size_t given_len, uint8_t *room)
+{
+    bitpacking_column column = BITPACKING_COLUMN_EMPTY;
+    const ptrdiff_t len = bitpacking_column_pack(its_kind, given, given_len, room, ROOM, NULL);
+
+    expect(len > 0 && bitpacking_column_open(room, (size_t)len, &column) == 0, "a part is not packed");
+    return column;
+}
+
+/* A call left these values at the start of `found`, and nothing after them. */
+static void leaves(ptrdiff_t answer, const uint32_t *its, size_t len, const char *what)
+{
+    expect(answer == (ptrdiff_t)len && memcmp(found, its, len * sizeof *its) == 0, what);
+    expect(all_are(found + len, sizeof found - len * sizeof *found, 0xA5), what);
+    memset(found, 0xA5, sizeof found);
+}
+
+/* ---- writing */
+
+/* Whether a sorted column has a value before a position that can fall. */
+static int can_fall(size_t at)
+{
+    return kind == BITPACKING_SORTED && at > 0 && values[at - 1] > 0;
+}
+
+/* A value below the one before it is refused in a sorted column, before the room is looked at. */
+static void refuses_order(size_t at)
+{
+    const uint32_t it = values[at];
+
+    if (!can_fall(at))
+        return;
+    values[at] = values[at - 1] - 1;
+    REFUSES(bitpacking_column_pack(BITPACKING_SORTED, values, count, packed, len, where), BITPACKING_NOT_SORTED, at, "a fall");
+    expect(bitpacking_column_size(BITPACKING_SORTED, values, count, &position) == BITPACKING_NOT_SORTED && position == at, "its size");
+    values[at] = it;
+}
+
+static void packs(void)
+{
+    size_t at;
+
+    expect(size <= BITPACKING_COLUMN_ROOM(count), "there is more than the room that is enough");
+    position = 77;
+    expect(bitpacking_column_size(kind, values, count, &position) == (ptrdiff_t)size, "another size");
+    expect(bitpacking_column_size(kind, values, count, NULL) == (ptrdiff_t)size, "another size without a position");
+    expect(bitpacking_column_size(BITPACKING_SORTED + 1, values, count, &position) == BITPACKING_BAD_KIND && position == 77, "no kind");
+    WRITES(bitpacking_column_pack(kind, values, count, packed, len, where), "other bytes are packed");
+    REFUSES(bitpacking_column_pack((uint8_t)(kind + 2), values, count, packed, len, where), BITPACKING_BAD_KIND, 77, "a kind");
+    for (at = 1; at < count; at += 1 + at / 3)
+        refuses_order(at);
+}
+
+/* The values from a cut on are appended to those before it. */
+static void appends(size_t cut)
+{
+    const bitpacking_column first = opened(kind, values, cut, first_bytes);
+
+    WRITES(bitpacking_column_append(&first, values + cut, count - cut, packed, len, where), "other bytes are appended");
+    if (can_fall(cut)) {
+        const uint32_t falls[2] = {values[cut - 1], values[cut - 1] - 1};
+
+        REFUSES(bitpacking_column_append(&first, falls, 2, packed, len, where), BITPACKING_NOT_SORTED, cut + 1, "a fall is appended");
+    }
+}
+
+/* Bases that a column can't be joined with: values above 2^32 - 1, and a fall. `moved` are the values of the other column. */
+static void refuses_bases(const bitpacking_column *first, const bitpacking_column *other, size_t cut)
+{
+    const size_t left = count - cut;
+    size_t i;
+
+    for (i = 0; i < left && moved[i] == 0; i++)
+        continue;
+    if (i < left) {
+        const uint32_t most = UINT32_MAX - moved[i] + 1;
+
+        for (i = 0; moved[i] <= UINT32_MAX - most; i++)
+            continue;
+        REFUSES(bitpacking_column_join(first, most, other, work, left, packed, len, where), BITPACKING_BAD_BASE, i, "a base is too great");
+    }
+    if (can_fall(cut) && left > 0) {
+        const uint32_t low = values[cut - 1] - 1 < UINT32_MAX - moved[left - 1] ? values[cut - 1] - 1 : 0;
+
+        if (low + moved[0] < values[cut - 1])
+            REFUSES(bitpacking_column_join(first, low, other, work, left, packed, len, where), BITPACKING_NOT_SORTED, cut, "a join falls");
+    }
+}
+
+/* The values from a cut on, less a base, are joined to those before it. The other column may be plain. */
+static void joins(size_t cut, uint8_t other_kind)
+{
+    const bitpacking_column first = opened(kind, values, cut, first_bytes);
+    const size_t left = count - cut;
+    bitpacking_column other;
+    uint32_t base = left > 0 ? values[cut] : 5;
+    size_t i;
+
+    for (i = cut; i < count; i++)
+        base = values[i] < base ? values[i] : base;
+    for (i = 0; i < left; i++)
+        moved[i] = values[cut + i] - base;
+    other = opened(other_kind, moved, left, other_bytes);
+    if (left > 0)
+        refused(bitpacking_column_join(&first, base, &other, work, left - 1, packed, ROOM, NULL), BITPACKING_SHORT, "no work space");
+    WRITES(bitpacking_column_join(&first, base, &other, work, len == ROOM ? MOST : left, packed, len, where), "other bytes are joined");
+    refuses_bases(&first, &other, cut);
+}
+
+/* The column is pushed: the first values one by one, and those from a cut on at once. */
+static void builds(size_t cut)
+{
+    bitpacking_column_builder builder = BITPACKING_COLUMN_BUILDER_EMPTY;
+    size_t i;
+
+    expect(bitpacking_column_builder_start(&builder, kind, work, count) == 0, "no builder");
+    for (i = 0; i < cut; i++)
+        expect(bitpacking_column_builder_push(&builder, values[i]) == (ptrdiff_t)i + 1, "a value is not pushed");
+    if (can_fall(cut)) {
+        const uint32_t falls[2] = {values[cut - 1], values[cut - 1] - 1};
+
+        expect(bitpacking_column_builder_push(&builder, falls[1]) == BITPACKING_NOT_SORTED, "a fall is pushed");
+        expect(bitpacking_column_builder_extend(&builder, falls, 2, &position) == BITPACKING_NOT_SORTED && position == cut + 1, "falls");
+    }
+    position = 77;
+    expect(bitpacking_column_builder_len(&builder) == cut, "another number of pushed values");
+    expect(bitpacking_column_builder_extend(&builder, values + cut, count - cut, &position) == (ptrdiff_t)count, "values are not pushed");
+    expect(bitpacking_column_builder_push(&builder, UINT32_MAX) == BITPACKING_SHORT, "a value is pushed without room");
+    expect(bitpacking_column_builder_len(&builder) == count && position == 77, "a refusal changes a builder");
+    WRITES(bitpacking_column_builder_finish(&builder, packed, len), "a builder writes other bytes");
+}
+
+/* ---- reading */
+
+static void gets_each(const bitpacking_column *column)
+{
+    const uint64_t bases[3] = {0, (uint64_t)1 << 40, BITPACKING_MAX_BASE};
+    uint32_t item = 77;
+    uint64_t sum = 77;
+    size_t i;
+
+    for (i = 0; i < count; i++) {
+        const uint64_t base = bases[i % 3];
+
+        expect(bitpacking_column_get(column, i, &item) == 1 && item == values[i], "another value");
+        expect(bitpacking_column_get_wide(column, base, i, &sum) == 1 && sum == base + values[i], "another sum");
+    }
+    item = 77, sum = 77;
+    expect(bitpacking_column_get(column, count, &item) == 0 && bitpacking_column_get(column, SIZE_MAX, &item) == 0, "a value after the last");
+    expect(bitpacking_column_get_wide(column, 5, count, &sum) == 0, "a sum after the last");
+    expect(bitpacking_column_get_wide(column, BITPACKING_MAX_BASE + 1, 0, &sum) == BITPACKING_BAD_BASE, "a base");
+    expect(item == 77 && sum == 77, "what is not there is written");
+}
+
+static void unpacks(const bitpacking_column *column)
+{
+    const uint64_t base = BITPACKING_MAX_BASE - 7;
+    size_t i;
+
+    expect(count == 0 || bitpacking_column_unpack(column, found, count - 1) == BITPACKING_SHORT, "too little room");
+    leaves(bitpacking_column_unpack(column, found, count), values, count, "other values in their own number");
+    leaves(bitpacking_column_unpack(column, found, MOST), values, count, "other values");
+    memset(sums, 0xA5, sizeof sums);
+    expect(count == 0 || bitpacking_column_unpack_wide(column, base, sums, count - 1) == BITPACKING_SHORT, "too little room for sums");
+    expect(bitpacking_column_unpack_wide(column, BITPACKING_MAX_BASE + 1, sums, 0) == BITPACKING_BAD_BASE, "a base of all");
+    expect(all_are(sums, sizeof sums, 0xA5), "sums are written");
+    expect(bitpacking_column_unpack_wide(column, base, sums, count + 1) == (ptrdiff_t)count, "another number of sums");
+    for (i = 0; i < count && sums[i] == base + values[i]; i++)
+        continue;
+    expect(i == count && all_are(&sums[count], sizeof *sums, 0xA5), "other sums");
+}
+
+/* The values from a position on, into this room. */
+static void ranges(const bitpacking_column *column, size_t from, size_t room)
+{
+    const size_t left = from < count ? count - from : 0;
+
+    leaves(bitpacking_column_range(column, from, found, room), values + (left > 0 ? from : 0), left < room ? left : room, "values from on");
+}
+
+/* The values at positions that are drawn, in order or in any. */
+static void gathers(const bitpacking_column *column, size_t len, int in_order)
+{
+    size_t i, at = 0;
+
+    for (i = 0; i < len; i++) {
+        at = in_order ? at + drawn(3) : drawn(count);
+        positions[i] = at < count ? at : count - 1;
+        moved[i] = values[positions[i]];
+    }
+    expect(len == 0 || bitpacking_column_gather(column, positions, len, found, len - 1) == BITPACKING_SHORT, "no room at positions");
+    positions[len] = count + drawn(2) * 1000;
+    expect(bitpacking_column_gather(column, positions, len + 1, found, MOST) == BITPACKING_BAD_POSITION, "a position after the last");
+    leaves(bitpacking_column_gather(column, positions, len, found, len), moved, len, "other values at positions");
+}
+
+/* ---- searching */
+
+static void seeks(const bitpacking_column *column, uint32_t target)
+{
+    size_t at = 0;
+    uint32_t item = 78;
+
+    for (at = kind == BITPACKING_PLAIN ? count : 0; at < count && values[at] < target; at++)
+        continue;
+    position = 77;
+    expect(bitpacking_column_seek(column, target, &position, &item) == (kind == BITPACKING_PLAIN ? BITPACKING_BAD_KIND : at < count), "a search");
+    expect(position == (at < count ? at : 77) && item == (at < count ? values[at] : 78), "another value is found");
+}
+
+/* The positions of the values of a range: all, as many as there is room for, and those from a position on. */
+static void finds(const bitpacking_column *column, uint32_t low, uint32_t high)
+{
+    const size_t part = drawn(40), start = drawn(count + 2);
+    size_t len = 0, after = 0, i;
+
+    for (i = 0; i < count; i++)
+        if (low <= values[i] && values[i] <= high) {
+            right[len++] = i;
+            after += i < start;
+        }
+    expect(bitpacking_column_count_between(column, low, high) == len, "another count of a range");
+    for (i = 0; i < 3; i++) { /* all, a part of these, and those from a position on */
+        const size_t from = i < 2 ? 0 : start, room = i == 1 ? part : MOST, skipped = i < 2 ? 0 : after;
+        const size_t wanted = len - skipped < room ? len - skipped : room;
+
+        memset(positions, 0xA5, sizeof positions);
+        expect(bitpacking_column_between(column, low, high, from, positions, room) == wanted, "another number of a range");
+        expect(memcmp(positions, right + skipped, wanted * sizeof *right) == 0, "other positions of a range");
+        expect(all_are(&positions[wanted], sizeof *positions, 0xA5), "more positions of a range");
+    }
+    expect(bitpacking_column_between(column, low, high, count, positions, 1) == 0, "a position from the length on");
+}
+
+/* A number that is there, or next to one, or any. */
+static uint32_t near(void)
+{
+    return count > 0 && drawn(4) > 0 ? values[drawn(count)] + drawn(3) - 1 : drawn((uint64_t)1 << 32);
+}
+
+/* The bounds of each block, as the header has them. */
+static void bounds(const bitpacking_column *column)
+{
+    uint32_t least = 77, greatest = 78;
+    size_t block, i;
+
+    expect(bitpacking_column_bounds(column, count / BLOCK, &least, &greatest) == BITPACKING_BAD_BLOCK, "bounds of a tail");
+    expect(bitpacking_column_bounds(column, SIZE_MAX, &least, &greatest) == BITPACKING_BAD_BLOCK, "bounds of the greatest block");
+    expect(least == 77 && greatest == 78, "bounds of no block are written");
+    for (block = 0; block < count / BLOCK; block++) {
+        const uint32_t *its = values + block * BLOCK;
+        uint32_t low = *its, high = *its, range = 0;
+
+        for (i = 0; i < BLOCK; i++) {
+            low = its[i] < low ? its[i] : low;
+            high = its[i] > high ? its[i] : high;
+        }
+        if (kind == BITPACKING_PLAIN) {
+            while (range < high - low)
+                range = 2 * range + 1;
+            high = range > UINT32_MAX - low ? UINT32_MAX : low + range;
+        } else
+            low = block > 0 ? its[-1] : *its;
+        expect(bitpacking_column_bounds(column, block, &least, &greatest) == 0 && least == low && greatest == high, "other bounds");
+    }
+}
+
+static void accepts(void)
+{
+    bitpacking_column column = BITPACKING_COLUMN_EMPTY, tested = BITPACKING_COLUMN_EMPTY;
+    int i;
+
+    expect(bitpacking_column_open(bytes, size, &column) == 0 && column.bytes == bytes && column.bytes_len == size, "it is refused");
+    bitpacking_column_open_tested(bytes, size, &tested);
+    expect(memcmp(&tested, &column, offsetof(bitpacking_column, kind) + 1) == 0, "it is opened otherwise");
+    expect(bitpacking_column_len(&column) == count && bitpacking_column_kind(&column) == kind, "another length or kind");
+    gets_each(&column);
+    unpacks(&column);
+    unpacks(&tested);
+    ranges(&column, 0, MOST);
+    ranges(&column, SIZE_MAX, MOST);
+    gathers(&column, 0, 0);
+    seeks(&column, 0);
+    seeks(&column, UINT32_MAX);
+    finds(&column, 0, UINT32_MAX);
+    finds(&column, UINT32_MAX, 0);
+    for (i = 0; i < DRAWN; i++) {
+        const uint32_t low = near(), high = i % 3 == 0 ? low + drawn(4) : near();
+
+        ranges(&column, drawn(count + 3), drawn(count + 3));
+        gathers(&column, count > 0 ? drawn(200) : 0, i % 2);
+        seeks(&column, low);
+        finds(&column, low, high);
+    }
+    bounds(&column);
+    expect(bitpacking_column_open(bytes, size + 1, &column) == BITPACKING_TRAILING && column.bytes_len == size, "a byte is left over");
+    expect(bitpacking_column_open(bytes, size - 1, &column) < 0 && column.bytes_len == size, "its last byte is not needed");
+}
+
+/* Nothing is read through a pointer to no items. A view of zeros is the empty plain column, and a builder of zeros one without room. */
+static void empty(void)
+{
+    bitpacking_column column = BITPACKING_COLUMN_EMPTY;
+    bitpacking_column_builder builder = BITPACKING_COLUMN_BUILDER_EMPTY;
+    uint8_t byte = 0xA5;
+    uint32_t item = 77, high = 79;
+
+    position = 78;
+    expect(bitpacking_column_len(&column) == 0 && bitpacking_column_unpack(&column, NULL, 0) == 0, "a view of zeros has values");
+    expect(bitpacking_column_kind(&column) == BITPACKING_PLAIN && bitpacking_column_get(&column, 0, &item) == 0, "a value of zeros");
+    expect(bitpacking_column_seek(&column, 0, &position, &item) == BITPACKING_BAD_KIND, "zeros are searched");
+    expect(bitpacking_column_range(&column, 0, NULL, 0) == 0 && bitpacking_column_range(&column, 0, &item, 1) == 0, "a range of zeros");
+    expect(bitpacking_column_gather(&column, NULL, 0, NULL, 0) == 0, "values of zeros at no position");
+    expect(bitpacking_column_gather(&column, &position, 1, &item, 1) == BITPACKING_BAD_POSITION, "values of zeros at a position");
+    expect(bitpacking_column_count_between(&column, 0, UINT32_MAX) == 0, "zeros have values within a range");
+    expect(bitpacking_column_between(&column, 0, UINT32_MAX, 0, &position, 1) == 0, "zeros have positions within a range");
+    expect(bitpacking_column_bounds(&column, 0, &item, &high) == BITPACKING_BAD_BLOCK, "zeros have a block");
+    expect(bitpacking_column_append(&column, NULL, 0, &byte, 1, NULL) == 1 && byte == 0x40, "no value is not appended to zeros");
+    expect(bitpacking_column_join(&column, 9, &column, NULL, 0, &byte, 1, NULL) == 1 && byte == 0x40, "zeros are not joined");
+    expect(bitpacking_column_pack(BITPACKING_PLAIN, NULL, 0, NULL, 0, NULL) == BITPACKING_SHORT, "the empty column needs no byte");
+    expect(bitpacking_column_open(NULL, 0, &column) == BITPACKING_TRUNCATED && column.bytes == NULL, "no bytes are a column");
+    expect(bitpacking_column_pack(BITPACKING_SORTED, NULL, 0, &byte, 1, &position) == 1 && byte == 0x60, "another empty sorted column");
+    expect(bitpacking_column_open(&byte, 1, &column) == 0 && bitpacking_column_unpack(&column, NULL, 0) == 0, "an empty column has values");
+    expect(bitpacking_column_seek(&column, 0, &position, &item) == 0, "a value of an empty column is found");
+    expect(bitpacking_column_builder_push(&builder, 1) == BITPACKING_SHORT && bitpacking_column_builder_len(&builder) == 0, "it is pushed");
+    expect(bitpacking_column_builder_extend(&builder, NULL, 0, &position) == 0, "no value is not pushed");
+    expect(bitpacking_column_builder_start(&builder, 2, &item, 1) == BITPACKING_BAD_KIND && builder.values == NULL, "no kind");
+    expect(bitpacking_column_builder_finish(&builder, &byte, 1) == 1 && byte == 0x40, "another empty plain column");
+    expect(item == 77 && position == 78 && high == 79, "something is written for no value");
+}
+
+int main(void)
+{
+    size_t columns = 0, refusals = 0, cut;
+    char *column[COLUMNS];
+
+    memset(packed, 0xA5, sizeof packed);
+    memset(found, 0xA5, sizeof found);
+    empty();
+    while (next_row(column))
+        if (table == REFUSED_BYTES) {
+            bitpacking_column view;
+
+            read_row(column[2]);
+            REFUSES_TO_OPEN(view, bitpacking_column_open(bytes, size, &view));
+            refusals++;
+        } else {
+            kind = kind_of(column[0]);
+            count = read_values(column[1], values);
+            read_row(column[2]);
+            packs();
+            accepts();
+            for (cut = 0; cut <= count; cut += 1 + count / 5) {
+                builds(cut);
+                appends(cut);
+                joins(cut, kind);
+                joins(cut, BITPACKING_PLAIN);
+            }
+            columns++;
+        }
+    printf("%lu columns, %lu refusals\n", (unsigned long)columns, (unsigned long)refusals);
+    return failed;
+}
