@@ -8,7 +8,6 @@ done. It prints a table, in nanoseconds a value and beside the first machine, an
 """
 import argparse
 import math
-import os
 import sys
 
 sys.path.insert(1, f"{sys.path[0]}/..")
@@ -39,11 +38,11 @@ def main():
             for call, time in timed(*command).items():
                 least[name][call] = min(time, least[name].get(call, time))
     first, *others = least
-    print(f"{measured.machine_name()}, load {os.getloadavg()[0]:.0f}", f"| Call | {first}, ns | {' | '.join(others)} |", sep="\n")
-    print("|---" * (2 + len(others)) + "|")
     ratios = {name: {call: time / least[first][call] for call, time in least[name].items()} for name in others}
-    for call, time in least[first].items():
-        print(f"| {call} | {time:.3f} | {' | '.join(f'{ratios[name][call]:.2f}' for name in others)} |")
+    own = f"{first}, ns"
+    rows = [(call, {own: f"{time:.3f}", **{name: f"{ratios[name][call]:.2f}" for name in others}}) for call, time in least[first].items()]
+    print(measured.head())
+    measured.show("call", [own, *others], rows)
     for name, of in ratios.items():
         mean, worst = math.exp(sum(map(math.log, of.values())) / len(of)), max(of, key=of.get)
         print(f"{name}: mean {mean:.2f}, worst {of[worst]:.2f} ({worst})")

@@ -143,6 +143,11 @@ def compiled_and_run(archive, path, command, **more):
         return None if right and text == PROGRAMS[path] else f"it failed, and printed {text[:2000]}"
 
 
+def miscounted(text):
+    """The text with another last digit."""
+    return re.sub(r"\d(?=\D*$)", lambda it: str((int(it[0]) + 1) % 10), text)
+
+
 def wrong_ones():
     """A program that prints nothing over a function with a wrong answer: a name, and what is wrong if it does not fail."""
     with tempfile.TemporaryDirectory(prefix="c-") as folder:
