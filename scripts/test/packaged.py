@@ -297,7 +297,7 @@ def of_a_commit(folder):
     def said():
         return run(sys.executable, "-B", "-c", asked, folder=folder).stdout
 
-    has = sorted([*ours, *(it for it in bundle.FILES if it.startswith("scripts/"))])
+    has = sorted([*ours, *(it for it in bundle.matching(bundle.FILES) if it.startswith("scripts/"))])
     yield "the files of a commit", None if said() == f"[] {has}\n" else said()
     rust.written(folder, {"examples/left.c": "", "postgres/idset--0.9.sql": ""})
     wanted = f"['?? examples/left.c', '?? postgres/idset--0.9.sql'] {has}\n"

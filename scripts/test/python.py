@@ -27,8 +27,6 @@ import install
 PARTS = "the Python package"
 MODULES = ["numpy", "hypothesis", "pytest", "setuptools", "wheel", "build", "pip", "ensurepip"]
 PAGES = ["README.md", "docs/PYTHON.md", "python/README.md", "python/COLUMN.md"]
-# What a wheel has, below the folder of the package.
-WHEEL = {*(it for it in os.listdir(f"{ROOT}/python/src/fimulowen") if it.endswith((".py", ".pyi", ".typed"))), "_core.abi3.so"}
 # Wrong changes: a file of the package, lines in it and other lines, and the tests of which one has to fail. A file of C is compiled again.
 WRONG = [
     ("values.py", "found[found < 0] += length", "found[found < 0] += length - 1", "test_id_set.py::test_reading"),
@@ -161,7 +159,8 @@ def wheel_of(package):
     with zipfile.ZipFile(found[0]) as wheel:
         names = {it.removeprefix("fimulowen/") for it in wheel.namelist() if it.startswith("fimulowen/")}
         wheel.extractall(f"{package.folder}/wheel")
-    yield "the files of the wheel", None if names == WHEEL else f"they differ in {sorted(names ^ WHEEL)}"
+    own = {it for it in os.listdir(f"{ROOT}/python/src/fimulowen") if it.endswith((".py", ".pyi", ".typed"))} | {"_core.abi3.so"}
+    yield "the files of the wheel", None if names == own else f"they differ in {sorted(names ^ own)}"
     symbols = run("nm", "-D", f"{package.folder}/wheel/fimulowen/_core.abi3.so").stdout.splitlines()
     defined = [line.split()[-1] for line in symbols if " T " in line or " D " in line or " B " in line]
     yield "the names of the extension", None if defined == ["PyInit__core"] else f"it exports {defined}"
