@@ -37,7 +37,11 @@ FILES += [
     "postgres/expected/*.out",
 ]
 # PROOFS links the scripts of its last rows.
-FILES += ["scripts/lint/*.py", "scripts/common.py", *(f"scripts/build/{it}.py" for it in ("install", "archives", "by_cargo", "choosing", "fast", "proving"))]
+FILES += [
+    "scripts/lint/*.py",
+    "scripts/common.py",
+    *(f"scripts/build/{it}.py" for it in ("install", "archives", "by_cargo", "choosing", "fast", "proving")),
+]
 # The archives of each processor, by the name that `uname -m` gives it.
 ARCHIVES = {"x86_64": ["rust/out/libbitpacking.a", "rust/out/x86-64*/*.a"], "aarch64": ["rust/out/aarch64*/*.a"]}
 
