@@ -35,7 +35,7 @@ impl Random {
         coded.collect()
     }
 
-    /// One of so many ids.
+    /// One id of this many.
     fn set(&mut self, one_of: u32) -> Vec<u32> {
         (0..END).filter(|_| self.next() % one_of == 0).collect()
     }
@@ -45,7 +45,7 @@ impl Random {
 struct Times(Vec<(String, f64, usize)>);
 
 impl Times {
-    /// Adds the time of a call for so many values.
+    /// Adds the time of a call, for a number of values.
     fn add(&mut self, name: String, values: usize, mut call: impl FnMut()) {
         let mut least = f64::INFINITY;
         for _ in 0..ROUNDS {

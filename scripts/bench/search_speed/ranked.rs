@@ -33,7 +33,7 @@ fn numbers(path: String) -> Vec<u32> {
     fs::read(path).unwrap().chunks_exact(4).map(|it| u32::from_le_bytes(it.try_into().unwrap())).collect()
 }
 
-/// The best of the documents that have at least so many of the words, by a score for each document, which is 0 before and after.
+/// The best of the documents that have at least `at_least` of the words, by a score for each document, which is 0 before and after.
 fn scanned(words: &[&Word], classes: &[u8], at_least: usize, scores: &mut [(u32, u64)]) -> Vec<(u64, u32)> {
     let mut found = Vec::new();
     for word in words {
