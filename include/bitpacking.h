@@ -439,8 +439,8 @@ ptrdiff_t bitpacking_set_count_common(const bitpacking_set *views, size_t views_
 /* Returns how many ids any set has. */
 ptrdiff_t bitpacking_set_count_any(const bitpacking_set *views, size_t views_len);
 
-/* Two other counts follow from these: with `common` and `any` of two sets, the first alone has bitpacking_set_len(&first) - common ids, and exactly
- * one of the two has any - common. */
+/* Other counts follow from these. Of `len` sets, the first has bitpacking_set_count_any(views, len) - bitpacking_set_count_any(views + 1, len - 1)
+ * ids that no other has; of two sets it has bitpacking_set_len(&views[0]) - common, which is faster, and exactly one of the two has any - common. */
 
 /* Returns the number of bytes that bitpacking_set_pack writes for the ids, and writes none. It has the errors of bitpacking_set_pack, without
  * SHORT. */
@@ -914,6 +914,17 @@ typedef struct bitpacking_scored {
  */
 ptrdiff_t bitpacking_best(const bitpacking_term *terms, size_t terms_len, const uint8_t *classes, size_t classes_len, size_t at_least,
                           bitpacking_walk *walks, size_t walks_len, bitpacking_scored *found, size_t found_len);
+
+/* Writes the best of these documents, which increase, as bitpacking_best does. They may be the answer to any query, such as bitpacking_set_query
+ * gives. A document that has none of the words has score 0.
+ *
+ * A query by AND of three words or more is answered faster by bitpacking_set_intersect and this call than by bitpacking_best.
+ *
+ *     TOO_LONG      terms_len is above 268,435,456
+ *     NOT_SORTED    a document is not above the one before it
+ */
+ptrdiff_t bitpacking_best_among(const uint32_t *documents, size_t documents_len, const bitpacking_term *terms, size_t terms_len,
+                                const uint8_t *classes, size_t classes_len, bitpacking_scored *found, size_t found_len);
 
 #ifdef __cplusplus
 }

@@ -28,6 +28,18 @@ def run(*command, folder=ROOT, **more):
     return subprocess.run(command, cwd=folder, **(given | more))
 
 
+class Failed(Exception):
+    """A command failed, with the end of what it printed, or something else did."""
+
+
+def called(*command, **more):
+    """Runs a command that has to end with status 0. Returns what it printed."""
+    done = run(*command, **more)
+    if done.returncode != 0:
+        raise Failed(f"{' '.join(command[:2])}: {done.stdout[-4000:]}")
+    return done.stdout
+
+
 def words(*flags):
     """The arguments of the script. One that begins with `-` and is not among the flags ends it."""
     unknown = [it for it in sys.argv[1:] if it.startswith("-") and it not in flags]

@@ -1,6 +1,6 @@
 """Blocks of one code, blocks at more than their least width, refused blocks, and conversions."""
 
-from lists import chained, values_in_order, values_out_of_order
+from lists import chained, values_out_of_order
 from parts import KINDS, LANES, STARTS, body_of, first_out, list_text, summed
 from sets import search_lists
 

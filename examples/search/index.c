@@ -17,42 +17,26 @@ static struct word *chains[CHAINS];
 static struct { struct word **items; size_t len; } words;
 
 /* The bytes of the index, where its items begin, and the classes of the lengths of documents. */
-static FILE *out;
+static struct { uint8_t *items; size_t len, room; } out;
 static struct numbers bounds;
 static struct { uint8_t *items; size_t len; } classes;
 
-/* Writes the last bytes of an item. */
+/* Room for this many bytes more at the end of the index. */
+static void *space(size_t len)
+{
+    for (; out.len + len > out.room; out.room = out.room ? 2 * out.room : 1)
+        out.items = grown(out.items, out.room, 1);
+    return out.items + out.len;
+}
+
+/* Ends an item with these bytes, or with as many that were written to their space. */
 static void end_item(const void *bytes, size_t len)
 {
-    if (fwrite(bytes, 1, len, out) < len || ftell(out) > UINT32_MAX)
+    if (bytes)
+        memcpy(space(len), bytes, len);
+    if ((out.len += len) > UINT32_MAX)
         errx(2, "there is more text than an index can have");
-    PUSH(bounds, (uint32_t)ftell(out));
-}
-
-static void write_column(uint8_t kind, const struct numbers *values)
-{
-    size_t room = BITPACKING_COLUMN_ROOM(values->len);
-    uint8_t *bytes = grown(NULL, room, 1);
-    end_item(bytes, (size_t)bitpacking_column_pack(kind, values->items, values->len, bytes, room, NULL));
-    free(bytes);
-}
-
-/* Writes what the index has of a word: its documents, its counts, and the last document and the greatest count of each whole block. */
-static void write_word(const struct word *word)
-{
-    struct numbers blocks = {NULL, 0};
-    uint8_t *bytes;
-    size_t size;
-    for (size_t at = BLOCK; at <= word->documents.len; at += BLOCK)
-        PUSH(blocks, word->documents.items[at - 1]);
-    for (size_t at = BLOCK; at <= word->documents.len; at += BLOCK)
-        PUSH(blocks, greatest_of(word->counts.items + at - BLOCK, BLOCK));
-    bytes = pack_set(&word->documents, &size);
-    end_item(bytes, size);
-    free(bytes);
-    write_column(BITPACKING_PLAIN, &word->counts);
-    write_column(BITPACKING_PLAIN, &blocks);
-    free(blocks.items);
+    PUSH(bounds, (uint32_t)out.len);
 }
 
 /* The word of these letters in lower case, which is added if it is new. */
@@ -73,6 +57,15 @@ static struct word *find_word(const char *letters, size_t len)
         PUSH(words, *word);
     }
     return *word;
+}
+
+/* The class of a number keeps its four highest binary digits. */
+static uint8_t class_of(uint32_t number)
+{
+    uint8_t shift = 0;
+    for (; number >= 16; number /= 2)
+        shift++;
+    return (uint8_t)(8 * shift + number);
 }
 
 /* Adds a document, which begins in a line of a file, if it has a word. */
@@ -99,8 +92,7 @@ static void add_document(const char *path, size_t line, const char *text, const 
     size_t kept = strcspn(text, "\r\n");
     while (kept > LONGEST_LINE || (kept > 0 && (text[kept] & 0xC0) == 0x80))
         kept--; /* it does not end within a character of UTF-8 */
-    fprintf(out, "%s:%zu  ", path, line);
-    end_item(text, kept);
+    end_item(NULL, (size_t)sprintf(space(strlen(path) + kept + 32), "%s:%zu  %.*s", path, line, (int)kept, text));
 }
 
 /* Adds the documents of a file, if no byte of it is zero: of each paragraph one, or one of the whole. */
@@ -167,49 +159,59 @@ static int compare_words(const void *a, const void *b)
 static void prepare(const char *file)
 {
     const char *slash = strrchr(file, '/'), *name = slash ? slash + 1 : file;
-    char *folder = slash ? strndup(file, (size_t)(name - file)) : strdup(".");
     struct stat status;
     if (lstat(file, &status) == 0 && !S_ISREG(status.st_mode))
         errx(2, "%s: it is no regular file, and is not replaced", file);
-    DIR *entries = opendir(folder);
+    DIR *entries = opendir(slash ? strndup(file, (size_t)(name - file)) : ".");
     for (struct dirent *entry; entries && (entry = readdir(entries));) {
-        int process, end = 0, ours = strncmp(entry->d_name, name, strlen(name)) == 0;
-        const char *rest = entry->d_name + (ours ? strlen(name) : 0);
-        ours = ours && sscanf(rest, ".%d.tmp%n", &process, &end) == 1 && end > 0 && !rest[end] && process > 0;
-        if (ours && kill(process, 0) != 0 && errno == ESRCH)
+        int process, end = 0;
+        const char *rest = strncmp(entry->d_name, name, strlen(name)) == 0 ? entry->d_name + strlen(name) : "";
+        if (sscanf(rest, ".%d.tmp%n", &process, &end) == 1 && end > 0 && !rest[end] && process > 0 && kill(process, 0) != 0 && errno == ESRCH)
             unlinkat(dirfd(entries), entry->d_name, 0);
     }
-    if (entries)
-        closedir(entries);
-    free(folder);
+}
+
+/* Writes the words in their order, each with the greatest class of its counts, and then of each the set and these classes. */
+static void write_words(void)
+{
+    if (words.len > 0)
+        qsort(words.items, words.len, sizeof *words.items, compare_words);
+    for (size_t i = 0; i < words.len; i++) {
+        struct numbers counts = words.items[i]->counts;
+        uint8_t greatest = 0;
+        for (size_t j = 0; j < counts.len; j++) {
+            uint8_t class = class_of(counts.items[j]);
+            counts.items[j] = class;
+            greatest = class > greatest ? class : greatest;
+        }
+        end_item(NULL, (size_t)sprintf(space(LONGEST_WORD + 3), "%s%c%c", words.items[i]->text, 0, greatest));
+    }
+    for (size_t i = 0; i < words.len; i++) {
+        struct numbers ids = words.items[i]->documents, counts = words.items[i]->counts;
+        size_t room = BITPACKING_SET_ROOM(ids.len) + BITPACKING_COLUMN_ROOM(0); /* enough for both */
+        end_item(NULL, (size_t)bitpacking_set_pack(ids.items, ids.len, space(room), room, NULL));
+        end_item(NULL, (size_t)bitpacking_column_pack(BITPACKING_PLAIN, counts.items, counts.len, space(room), room, NULL));
+    }
 }
 
 void make_index(char *folder, const char *file, int paragraphs)
 {
-    char *bytes, *name = grown(NULL, strlen(file) + 32, 1);
-    size_t size;
+    char *name = grown(NULL, strlen(file) + 32, 1);
     prepare(file);
-    if (!(out = open_memstream(&bytes, &size)))
-        err(2, "memory");
     end_item(MAGIC, sizeof MAGIC);
     add_folder(folder, paragraphs);
-    if (words.len > 0)
-        qsort(words.items, words.len, sizeof *words.items, compare_words);
-    for (size_t i = 0; i < words.len; i++)
-        end_item(words.items[i]->text, strlen(words.items[i]->text) + 1);
-    for (size_t i = 0; i < words.len; i++)
-        write_word(words.items[i]);
+    write_words();
     end_item(classes.items, classes.len);
-    uint32_t start = bounds.items[bounds.len - 1];
-    write_column(BITPACKING_SORTED, &bounds);
+    uint32_t start = (uint32_t)out.len;
+    size_t room = BITPACKING_COLUMN_ROOM(bounds.len);
+    end_item(NULL, (size_t)bitpacking_column_pack(BITPACKING_SORTED, bounds.items, bounds.len, space(room), room, NULL));
     end_item((uint8_t[]){start & 0xFF, start >> 8 & 0xFF, start >> 16 & 0xFF, start >> 24}, 4);
-    fflush(out);
     sprintf(name, "%s.%ld.tmp", file, (long)getpid());
     FILE *whole = fopen(name, "wb");
-    if (!whole || fwrite(bytes, 1, size, whole) < size || fflush(whole) || fsync(fileno(whole)) || rename(name, file)) {
+    if (!whole || fwrite(out.items, 1, out.len, whole) < out.len || fflush(whole) || fsync(fileno(whole)) || rename(name, file)) {
         warn("%s", file);
         remove(name);
         exit(2);
     }
-    printf("%zu documents and %zu words in %zu bytes\n", classes.len, words.len, size);
+    printf("%zu documents and %zu words in %zu bytes\n", classes.len, words.len, out.len);
 }

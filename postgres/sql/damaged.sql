@@ -25,7 +25,7 @@ CREATE TABLE calls (call text);
 INSERT INTO calls VALUES ('$1'), ('$1::int4[]'), ('$1::int8[]'), ('$1::bytea'), ('cardinality($1)'), ('contains($1, 5)'), ('$1 @> 5'), ('5 <@ $1'),
     ('seek($1, 5)'), ('get($1, 5)'), ('rank($1, 50)'), ('min($1)'), ('max($1)'), ('count_between($1, 5, 50)'), ('range($1, 5, 50)'), ('slice($1, 5, 50)'),
     ('(SELECT count(id) FROM unnest($1) id)'), ('$1 & ''{1}'''), ('''{1}'' & $1'), ('$1 | ''{1}'''), ('$1 - ''{1}'''), ('''{1}'' - $1'), ('$1 # ''{1}'''),
-    ('$1 | 5'), ('$1 - 5'), ('intersect_len($1, ''{1}'')'), ('unite_len($1, ''{1}'')'), ('subtract_len($1, ''{1}'')'),
+    ('$1 | 5'), ('$1 - 5'), ('($1 - -1) IS NULL'), ('intersect_len($1, ''{1}'')'), ('unite_len($1, ''{1}'')'), ('subtract_len($1, ''{1}'')'),
     ('symmetric_difference_len($1, ''{1}'')'), ('jaccard($1, ''{1}'')'), ('$1 && ''{1}'''), ('$1 @> ''{1}'''), ('$1 <@ ''{1}'''), ('$1 @@ ''1|!5'''),
     ('$1 < ''{1}'''), ('$1 <= ''{1}'''), ('$1 > ''{1}'''), ('''{1}'' >= $1'), ('idset_cmp($1, ''{1}'')'), ('unite_agg($1)'), ('intersect_agg($1)'),
     ('symmetric_difference_agg($1)'), ('(SELECT intersect_agg(l) FROM unnest(ARRAY[''{1}'', $1]) l)'), ('(SELECT unite_agg(l) FROM unnest(ARRAY[''{1}'', $1]) l)');

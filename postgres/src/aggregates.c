@@ -95,19 +95,8 @@ static gathered *with_set(FunctionCallInfo fcinfo, const bitpacking_set *set)
     return it;
 }
 
-PG_FUNCTION_INFO_V1(idset_gather_or);
-Datum idset_gather_or(PG_FUNCTION_ARGS)
-{
-    bitpacking_set set;
-
-    if (PG_ARGISNULL(1))
-        return unchanged(fcinfo);
-    set = opened(PG_GETARG_VARLENA_PP(1));
-    PG_RETURN_POINTER(with_set(fcinfo, &set));
-}
-
-PG_FUNCTION_INFO_V1(idset_gather_xor);
-Datum idset_gather_xor(PG_FUNCTION_ARGS)
+/* The state of an OR or a XOR with a row more. */
+static Datum with_row(FunctionCallInfo fcinfo, bool odd)
 {
     bitpacking_set set;
     gathered *it;
@@ -116,9 +105,15 @@ Datum idset_gather_xor(PG_FUNCTION_ARGS)
         return unchanged(fcinfo);
     set = opened(PG_GETARG_VARLENA_PP(1));
     it = with_set(fcinfo, &set);
-    it->odd = true;
+    it->odd = odd;
     PG_RETURN_POINTER(it);
 }
+
+PG_FUNCTION_INFO_V1(idset_gather_or);
+Datum idset_gather_or(PG_FUNCTION_ARGS) { return with_row(fcinfo, false); }
+
+PG_FUNCTION_INFO_V1(idset_gather_xor);
+Datum idset_gather_xor(PG_FUNCTION_ARGS) { return with_row(fcinfo, true); }
 
 /* The state with those of its ids that a set has too, or with all of the first set. Its ids are a set. */
 static Datum with_common(FunctionCallInfo fcinfo, const bitpacking_set *set)

@@ -17,13 +17,10 @@ typedef struct {
 /* The ids of a set as keys. */
 static Datum *keys_of(const bitpacking_set *set, int32 *count)
 {
-    size_t len = bitpacking_set_len(set), i;
-    uint32 *ids = unpacked(set);
+    size_t len = bitpacking_set_len(set);
     Datum *keys = palloc_extended(sizeof(Datum) * (len ? len : 1), MCXT_ALLOC_HUGE);
 
-    for (i = 0; i < len; i++)
-        keys[i] = Int64GetDatum(ids[i]);
-    pfree(ids);
+    bitpacking_set_unpack_wide(set, 0, keys, len);
     *count = (int32)len;
     return keys;
 }

@@ -22,9 +22,9 @@ struct varlena *packed(const uint32 *ids, size_t len);
 
 /* values.c: numbers of PostgreSQL, and arrays of ids. */
 uint32 *new_ids(size_t len);
-uint32 *unpacked(const bitpacking_set *set);
 size_t made_set(uint32 *ids, size_t len);
 size_t kept_odd(uint32 *ids, size_t len);
+const char *read_digits(const char *at, uint64 *number);
 uint32 as_id(int64 number);
 size_t rank_of(const bitpacking_set *set, int64 number);
 

@@ -72,12 +72,11 @@ static void end_operators(parse *it, bool or_too)
 
 static void read_number(parse *it)
 {
-    uint64 number = 0;
+    uint64 number;
 
     if (*it->at < '0' || *it->at > '9')
         refuse_query(it, "A number is missing.");
-    for (; *it->at >= '0' && *it->at <= '9'; it->at++)
-        number = number > UINT32_MAX ? number : 10 * number + (uint64)(*it->at - '0');
+    it->at = read_digits(it->at, &number);
     if (number > UINT32_MAX)
         refuse_query(it, "The ids of an idset are from 0 to 4294967295.");
     append(it, ID, (uint32)number, false);

@@ -42,41 +42,47 @@ static ptrdiff_t xor_call(const bitpacking_set *sets, size_t count, uint32_t *id
     return bitpacking_set_symmetric_difference(&sets[0], &sets[1], ids, room);
 }
 
-static Datum united(const two_sets *it) { return combined(it, bitpacking_set_unite, it->len[0] + it->len[1]); }
-
-static Datum subtracted(const two_sets *it) { return combined(it, bitpacking_set_subtract, it->len[0]); }
-
-PG_FUNCTION_INFO_V1(idset_intersect);
-Datum idset_intersect(PG_FUNCTION_ARGS)
+/* How many ids both sets have. */
+static size_t common(const two_sets *it)
 {
-    two_sets it = opened_two(fcinfo);
+    ptrdiff_t count = bitpacking_set_count_common(it->sets, 2);
 
-    return combined(&it, bitpacking_set_intersect, Min(it.len[0], it.len[1]));
+    if (count < 0)
+        refuse(count);
+    return (size_t)count;
 }
 
-PG_FUNCTION_INFO_V1(idset_unite);
-Datum idset_unite(PG_FUNCTION_ARGS)
-{
-    two_sets it = opened_two(fcinfo);
+/* A function of two sets, `it`, by what it returns. */
+#define OF_TWO(name, result)                                                                                                           \
+    PG_FUNCTION_INFO_V1(name);                                                                                                         \
+    Datum name(PG_FUNCTION_ARGS)                                                                                                       \
+    {                                                                                                                                  \
+        two_sets it = opened_two(fcinfo);                                                                                              \
+                                                                                                                                       \
+        return result;                                                                                                                 \
+    }
 
-    return united(&it);
+OF_TWO(idset_intersect, combined(&it, bitpacking_set_intersect, Min(it.len[0], it.len[1])))
+OF_TWO(idset_unite, combined(&it, bitpacking_set_unite, it.len[0] + it.len[1]))
+OF_TWO(idset_subtract, combined(&it, bitpacking_set_subtract, it.len[0]))
+OF_TWO(idset_symmetric_difference, combined(&it, xor_call, it.len[0] + it.len[1]))
+OF_TWO(idset_intersect_len, Int64GetDatum((int64)common(&it)))
+OF_TWO(idset_unite_len, Int64GetDatum((int64)(it.len[0] + it.len[1] - common(&it))))
+OF_TWO(idset_subtract_len, Int64GetDatum((int64)(it.len[0] - common(&it))))
+OF_TWO(idset_symmetric_difference_len, Int64GetDatum((int64)(it.len[0] + it.len[1] - 2 * common(&it))))
+OF_TWO(idset_overlaps, BoolGetDatum(bitpacking_set_is_disjoint(&it.sets[0], &it.sets[1]) == 0))
+OF_TWO(idset_contains_all, BoolGetDatum(bitpacking_set_is_subset(&it.sets[1], &it.sets[0]) == 1))
+OF_TWO(idset_contained, BoolGetDatum(bitpacking_set_is_subset(&it.sets[0], &it.sets[1]) == 1))
+
+/* How many ids both have, of those that any has; 1 for two empty sets, which are equal. */
+static float8 jaccard(const two_sets *it)
+{
+    size_t shared = common(it), any = it->len[0] + it->len[1] - shared;
+
+    return any ? (float8)shared / (float8)any : 1.0;
 }
 
-PG_FUNCTION_INFO_V1(idset_subtract);
-Datum idset_subtract(PG_FUNCTION_ARGS)
-{
-    two_sets it = opened_two(fcinfo);
-
-    return subtracted(&it);
-}
-
-PG_FUNCTION_INFO_V1(idset_symmetric_difference);
-Datum idset_symmetric_difference(PG_FUNCTION_ARGS)
-{
-    two_sets it = opened_two(fcinfo);
-
-    return combined(&it, xor_call, it.len[0] + it.len[1]);
-}
+OF_TWO(idset_jaccard, Float8GetDatum(jaccard(&it)))
 
 /* A set of one id, over bytes of the caller. */
 static bitpacking_set set_of(uint32 id, uint8_t bytes[BITPACKING_SET_ROOM(1)])
@@ -94,96 +100,20 @@ Datum idset_add(PG_FUNCTION_ARGS)
     uint8_t bytes[BITPACKING_SET_ROOM(1)];
     two_sets it = both(opened_argument(fcinfo, 0), set_of(as_id(PG_GETARG_INT64(1)), bytes));
 
-    return united(&it);
+    return combined(&it, bitpacking_set_unite, it.len[0] + 1);
 }
 
 /* The set without a number. No set has a number that is out of range. */
 PG_FUNCTION_INFO_V1(idset_remove);
 Datum idset_remove(PG_FUNCTION_ARGS)
 {
+    bitpacking_set set = opened_argument(fcinfo, 0);
     int64 number = PG_GETARG_INT64(1);
     uint8_t bytes[BITPACKING_SET_ROOM(1)];
     two_sets it;
 
     if (number < 0 || number > UINT32_MAX)
         PG_RETURN_DATUM(PG_GETARG_DATUM(0));
-    it = both(opened_argument(fcinfo, 0), set_of((uint32)number, bytes));
-    return subtracted(&it);
-}
-
-/* How many ids both sets have. */
-static size_t common(const two_sets *it)
-{
-    ptrdiff_t count = bitpacking_set_count_common(it->sets, 2);
-
-    if (count < 0)
-        refuse(count);
-    return (size_t)count;
-}
-
-PG_FUNCTION_INFO_V1(idset_intersect_len);
-Datum idset_intersect_len(PG_FUNCTION_ARGS)
-{
-    two_sets it = opened_two(fcinfo);
-
-    PG_RETURN_INT64((int64)common(&it));
-}
-
-PG_FUNCTION_INFO_V1(idset_unite_len);
-Datum idset_unite_len(PG_FUNCTION_ARGS)
-{
-    two_sets it = opened_two(fcinfo);
-
-    PG_RETURN_INT64((int64)(it.len[0] + it.len[1] - common(&it)));
-}
-
-PG_FUNCTION_INFO_V1(idset_subtract_len);
-Datum idset_subtract_len(PG_FUNCTION_ARGS)
-{
-    two_sets it = opened_two(fcinfo);
-
-    PG_RETURN_INT64((int64)(it.len[0] - common(&it)));
-}
-
-PG_FUNCTION_INFO_V1(idset_symmetric_difference_len);
-Datum idset_symmetric_difference_len(PG_FUNCTION_ARGS)
-{
-    two_sets it = opened_two(fcinfo);
-
-    PG_RETURN_INT64((int64)(it.len[0] + it.len[1] - 2 * common(&it)));
-}
-
-/* How many ids both have, of those that any has; 1 for two empty sets, which are equal. */
-PG_FUNCTION_INFO_V1(idset_jaccard);
-Datum idset_jaccard(PG_FUNCTION_ARGS)
-{
-    two_sets it = opened_two(fcinfo);
-    size_t shared = common(&it), any = it.len[0] + it.len[1] - shared;
-
-    PG_RETURN_FLOAT8(any ? (float8)shared / (float8)any : 1.0);
-}
-
-PG_FUNCTION_INFO_V1(idset_overlaps);
-Datum idset_overlaps(PG_FUNCTION_ARGS)
-{
-    two_sets it = opened_two(fcinfo);
-
-    PG_RETURN_BOOL(bitpacking_set_is_disjoint(&it.sets[0], &it.sets[1]) == 0);
-}
-
-/* Whether a set has all ids of the other. */
-PG_FUNCTION_INFO_V1(idset_contains_all);
-Datum idset_contains_all(PG_FUNCTION_ARGS)
-{
-    two_sets it = opened_two(fcinfo);
-
-    PG_RETURN_BOOL(bitpacking_set_is_subset(&it.sets[1], &it.sets[0]) == 1);
-}
-
-PG_FUNCTION_INFO_V1(idset_contained);
-Datum idset_contained(PG_FUNCTION_ARGS)
-{
-    two_sets it = opened_two(fcinfo);
-
-    PG_RETURN_BOOL(bitpacking_set_is_subset(&it.sets[0], &it.sets[1]) == 1);
+    it = both(set, set_of((uint32)number, bytes));
+    return combined(&it, bitpacking_set_subtract, it.len[0]);
 }

@@ -24,10 +24,9 @@ static const char *read_id(const char *at, const char *text, uint32 *id)
 {
     const char *start = at = after_spaces(at);
     bool negative = *at == '-';
-    uint64 number = 0;
+    uint64 number;
 
-    for (at += negative; *at >= '0' && *at <= '9'; at++)
-        number = number > UINT32_MAX ? number : 10 * number + (uint64)(*at - '0');
+    at = read_digits(at + negative, &number);
     if (at == start + negative)
         refuse_text(text, "A number is missing.");
     if (number > UINT32_MAX || (negative && number > 0))

@@ -18,17 +18,6 @@ uint32 *new_ids(size_t len)
     return palloc_extended(sizeof(uint32) * (len ? len : 1), MCXT_ALLOC_HUGE);
 }
 
-uint32 *unpacked(const bitpacking_set *set)
-{
-    size_t len = bitpacking_set_len(set);
-    uint32 *ids = new_ids(len);
-    ptrdiff_t count = bitpacking_set_unpack(set, ids, len);
-
-    if (count < 0)
-        refuse(count);
-    return ids;
-}
-
 static bool increases(const uint32 *ids, size_t len)
 {
     size_t i;
@@ -66,6 +55,14 @@ size_t kept_odd(uint32 *ids, size_t len)
         else
             ids[count++] = ids[i];
     return count;
+}
+
+/* Reads digits, and returns what is after them. A number above all ids stays above them. */
+const char *read_digits(const char *at, uint64 *number)
+{
+    for (*number = 0; *at >= '0' && *at <= '9'; at++)
+        *number = *number > UINT32_MAX ? *number : 10 * *number + (uint64)(*at - '0');
+    return at;
 }
 
 /* A number that is to be an id of a set. */

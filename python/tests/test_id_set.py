@@ -9,7 +9,7 @@ import numpy as np
 import pytest
 from fimulowen import Error, IdSet
 from fimulowen.values import index, u32
-from hypothesis import given, settings
+from hypothesis import given
 from hypothesis import strategies as st
 
 try:
@@ -19,8 +19,6 @@ except ImportError:  # the package does not need it
 
 RANDOM = np.random.default_rng(7)
 MOST = 2**32 - 1
-settings.register_profile("gate", deadline=None, max_examples=100, derandomize=True, database=None)
-settings.load_profile("gate")
 
 
 @st.composite

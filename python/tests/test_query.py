@@ -48,8 +48,8 @@ def test_trees(tree, target):
 def test_is_lazy(monkeypatch):
     """The first ids of a long answer are found by few calls, and chains of any length by no recursion."""
     one, other = IdSet(range(0, 1 << 23, 2)), IdSet(range(0, 1 << 23, 3))
-    found, original = [], fimulowen.query.combined
-    monkeypatch.setattr(fimulowen.query, "combined", lambda *given_calls: found.append(1) or original(*given_calls))
+    found, original = [], fimulowen.combining.combined
+    monkeypatch.setattr(fimulowen.combining, "combined", lambda *given_calls: found.append(1) or original(*given_calls))
     query = Query(one) & other
     assert not found and query.seek(6_000_001) == 6_000_006 and len(found) == 1
     assert len(next(query.parts())) == (1 << 16) // 6 + 1 and len(found) == 2

@@ -173,14 +173,6 @@ macro_rules! buffer {
                 (**self).fmt(f)
             }
         }
-
-        #[cfg(feature = "std")]
-        impl From<$error> for std::io::Error {
-            /// The kind is `InvalidData`, so that a function that reads a file can return `io::Result`.
-            fn from(error: $error) -> Self {
-                std::io::Error::new(std::io::ErrorKind::InvalidData, error)
-            }
-        }
     };
 }
 

@@ -39,6 +39,7 @@ pub enum Kind {
 
 /// Why a chain was not packed or unpacked. Nothing was written then.
 #[derive(Clone, Copy, PartialEq, Eq, Hash, Debug)]
+#[non_exhaustive]
 pub enum Error {
     /// The values are not as many as whole blocks of the widths have, or there is no room for them.
     BadLength,

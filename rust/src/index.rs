@@ -18,6 +18,13 @@ pub(crate) trait Proved<T> {
     ///
     /// The index is within the slice.
     unsafe fn proved_at_mut<I: SliceIndex<[T]>>(&mut self, index: I) -> &mut I::Output;
+
+    /// Returns as many items as an array has, from an index on.
+    ///
+    /// # Safety
+    ///
+    /// They are within the slice.
+    unsafe fn proved_items<const N: usize>(&self, first: usize) -> &[T; N];
 }
 
 const IS_TESTED: bool = cfg!(any(debug_assertions, not(target_pointer_width = "64")));
@@ -33,5 +40,11 @@ impl<T> Proved<T> for [T] {
     unsafe fn proved_at_mut<I: SliceIndex<[T]>>(&mut self, index: I) -> &mut I::Output {
         // SAFETY: the caller promises it.
         if IS_TESTED { &mut self[index] } else { unsafe { self.get_unchecked_mut(index) } }
+    }
+
+    #[inline(always)]
+    unsafe fn proved_items<const N: usize>(&self, first: usize) -> &[T; N] {
+        // SAFETY: the caller promises that they are within the slice, and an array is aligned as its items are.
+        if IS_TESTED { self[first..].first_chunk().unwrap() } else { unsafe { &*self.as_ptr().add(first).cast() } }
     }
 }

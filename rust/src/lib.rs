@@ -1,5 +1,23 @@
-//! The API of the crate `bitpacking` 0.9.3 over proved code: blocks of 32-bit integers, each value packed in as many bits as the
-//! greatest of its block needs. The bytes are those that 0.9.3 writes on a little-endian machine.
+//! Sets of ids, columns and blocks of 32-bit integers, each value packed in few bits:
+//!
+//! - [`set`]: sets of increasing ids, which are searched and combined in place;
+//! - [`mod@column`]: numbers beside ids, which are read by position, or searched;
+//! - [`ranked`]: the documents of a query with the greatest scores;
+//! - [`BitPacker`]: single blocks, with the API and the bytes of the crate `bitpacking` 0.9.3; [`Pack`] and [`chain`] have more calls on blocks.
+//!
+//! The calls test what they are given, and run proved code: sources with contracts, each function proved to meet its contract, which the build
+//! translates into Rust.
+//!
+//! ```
+//! use bitpacking::set::{IdSet, IdSetBuf};
+//!
+//! let (cats, dogs) = (IdSetBuf::pack(&[7, 9, 10, 300])?, IdSetBuf::pack(&[9, 11, 300])?);
+//! assert_eq!((&cats & &dogs).unpack(), [9, 300]);
+//! assert_eq!(IdSet::open(cats.as_bytes())?.seek(100), Some((3, 300)));
+//! # Ok::<(), bitpacking::set::Error>(())
+//! ```
+//!
+//! A block, in which each value has as many bits as the greatest needs:
 //!
 //! ```
 //! use bitpacking::{BitPacker, BitPacker4x};
@@ -14,10 +32,6 @@
 //! packer.decompress_sorted(0, &bytes, &mut unpacked, width);
 //! assert_eq!(unpacked, documents);
 //! ```
-//!
-//! Beside the blocks of 0.9.3 it has [`chain`]s, which are many blocks packed in one call.
-//!
-//! The blocks are proved code: sources with contracts, each function proved to meet its contract, which the build translates into Rust.
 #![no_std]
 #![deny(unsafe_op_in_unsafe_fn)]
 #![warn(missing_docs)]
@@ -36,6 +50,8 @@ pub mod chain;
 pub mod column;
 mod growing;
 mod index;
+#[cfg(feature = "std")]
+mod io_errors;
 mod iterator;
 mod packers;
 pub mod ranked;

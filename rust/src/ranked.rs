@@ -31,24 +31,29 @@ pub use crate::ranking::{CLASSES, Scored};
 
 use crate::column::Column;
 use crate::ranking;
-use crate::set::IdSet;
+use crate::set::{IdSet, intersect_all};
 
-/// Why a set, a column and a table are not a word.
+/// Why a set, a column and a table are not a word, or documents are not ranked.
 #[derive(Clone, Copy, Debug, PartialEq, Eq)]
 #[non_exhaustive]
 pub enum Error {
     /// There are more documents than counts, or fewer.
     OtherLength,
+    /// A document is not above the one before it. The number is its position.
+    NotSorted(usize),
     /// The table has no whole rows of [`CLASSES`] parts or none at all, a part above the first of its row, or a part above the one of the next count.
     NoTable,
 }
 
 impl fmt::Display for Error {
     fn fmt(&self, out: &mut fmt::Formatter<'_>) -> fmt::Result {
-        out.write_str(match self {
-            Error::OtherLength => "there are more documents than counts, or fewer",
-            Error::NoTable => "the parts are no table, or do not rise with the count, or are above the first of their row",
-        })
+        match self {
+            Error::OtherLength => out.write_str("there are more documents than counts, or fewer"),
+            Error::NotSorted(position) => write!(out, "document {position} is not above the one before it"),
+            Error::NoTable => {
+                out.write_str("the parts are no table, or do not rise with the count, or are above the first of their row")
+            }
+        }
     }
 }
 
@@ -56,7 +61,10 @@ impl core::error::Error for Error {}
 
 /// A word of a query.
 #[derive(Clone, Copy)]
-pub struct Term<'a>(ranking::Term<'a>);
+pub struct Term<'a> {
+    documents: &'a IdSet,
+    code: ranking::Term<'a>,
+}
 
 impl<'a> Term<'a> {
     /// A word of the set of its documents, how often each has it, and its table, which has a row of [`CLASSES`] parts for each count from 0 on.
@@ -70,7 +78,8 @@ impl<'a> Term<'a> {
             return Err(Error::OtherLength);
         }
         let parts = ranking::Parts::new(table).ok_or(Error::NoTable)?;
-        ranking::Term::new(documents.code(), counts.code(), parts).map(Term).map_err(|_| Error::OtherLength)
+        let code = ranking::Term::new(documents.code(), counts.code(), parts).map_err(|_| Error::OtherLength)?;
+        Ok(Term { documents, code })
     }
 }
 
@@ -83,14 +92,62 @@ impl<'a> Term<'a> {
 ///
 /// If there are more than 2^31 words.
 pub fn best(terms: &[Term<'_>], classes: &[u8], at_least: usize, most: usize) -> Vec<Scored> {
-    assert!(terms.len() <= 1 << 31, "there are more than 2^31 words");
-    let mut terms: Vec<ranking::Term<'_>> = terms.iter().map(|term| term.0).collect();
-    terms.sort_by_key(|term| ranking::AsTerm::ids(term).len());
-    let documents = terms.iter().map(|term| ranking::AsTerm::ids(term).len()).fold(0, usize::saturating_add);
+    let terms = rarest_first(terms);
+    if terms.len() > 1 && at_least == terms.len() {
+        // Few documents have all words, and all sets are intersected faster than the counts of one word are read.
+        let sets: Vec<&IdSet> = terms.iter().map(|term| term.documents).collect();
+        return among(&intersect_all(&sets), &terms, classes, most).expect("documents that increase");
+    }
+    let documents = terms.iter().map(|term| term.documents.len()).fold(0, usize::saturating_add);
     let mut found = vec![Scored { score: 0, id: 0 }; most.min(documents)];
     let mut walks = vec![ranking::Walk::new(); terms.len()];
     // REQUIRES: at most 2^31 words, and a walk for each.
-    let len = ranking::best(&terms, classes, at_least, &mut walks, &mut found);
+    let len = ranking::best(&codes(&terms), classes, at_least, &mut walks, &mut found);
     found.truncate(len);
     found
+}
+
+/// Returns the best of increasing documents, the best of them first and `most` at most. They may be the answer to any query.
+///
+/// The order, scores and `classes` are as in [`best`]. A document that has none of the words has score 0.
+///
+/// # Errors
+///
+/// `NotSorted`, with the position of the first document that is not above the one before it.
+///
+/// # Panics
+///
+/// If there are more than 2^31 words.
+///
+/// ```
+/// use bitpacking::ranked::{Error, best_among};
+///
+/// // Without words all documents have score 0, and the lowest come first.
+/// let found = best_among(&[3, 5, 9], &[], &[], 2)?;
+/// assert_eq!(found.iter().map(|it| (it.id, it.score)).collect::<Vec<_>>(), [(3, 0), (5, 0)]);
+/// assert_eq!(best_among(&[3, 9, 5], &[], &[], 2).err(), Some(Error::NotSorted(2)));
+/// # Ok::<(), Error>(())
+/// ```
+pub fn best_among(documents: &[u32], terms: &[Term<'_>], classes: &[u8], most: usize) -> Result<Vec<Scored>, Error> {
+    among(documents, &rarest_first(terms), classes, most)
+}
+
+fn among(documents: &[u32], terms: &[Term<'_>], classes: &[u8], most: usize) -> Result<Vec<Scored>, Error> {
+    let mut found = vec![Scored { score: 0, id: 0 }; most.min(documents.len())];
+    // REQUIRES: at most 2^31 words.
+    let len = ranking::best_among(documents, &codes(terms), classes, &mut found).map_err(Error::NotSorted)?;
+    found.truncate(len);
+    Ok(found)
+}
+
+/// The words, the rarest first, if they are not too many.
+fn rarest_first<'a>(terms: &[Term<'a>]) -> Vec<Term<'a>> {
+    assert!(terms.len() <= 1 << 31, "there are more than 2^31 words");
+    let mut terms = terms.to_vec();
+    terms.sort_by_key(|term| term.documents.len());
+    terms
+}
+
+fn codes<'a>(terms: &[Term<'a>]) -> Vec<ranking::Term<'a>> {
+    terms.iter().map(|term| term.code).collect()
 }

@@ -50,7 +50,6 @@ use core::fmt;
 use core::hash::{Hash, Hasher};
 use core::ops::Deref;
 
-pub use crate::sets::QueryError;
 pub use crate::sets::SetError as Error;
 pub use builder::SetBuilder;
 pub use cursor::{Cursor, SetCursor};
@@ -60,7 +59,7 @@ pub use many::{
     unite_all_into, unite_all_len,
 };
 pub use packing::{pack_into, pack_to, packed_len};
-pub use query::Query;
+pub use query::{Query, QueryError};
 pub use query_ids::QueryIds;
 
 use crate::buffer::buffer;

@@ -205,11 +205,6 @@ macro_rules! vector {
             }
 
             #[inline(always)]
-            pub(crate) fn simd_lt(self, other: Self) -> $mask {
-                $mask($of::less_bytes(self.0, other.0))
-            }
-
-            #[inline(always)]
             pub(crate) fn simd_le(self, other: Self) -> $mask {
                 $mask($of::at_most_bytes(self.0, other.0))
             }
@@ -272,6 +267,11 @@ vector!(u32x4, u8x16, mask8x16, 4, 16, four);
 vector!(u32x8, u8x32, mask8x32, 8, 32, eight);
 
 impl u8x16 {
+    #[inline(always)]
+    pub(crate) fn simd_lt(self, other: Self) -> mask8x16 {
+        mask8x16(four::less_bytes(self.0, other.0))
+    }
+
     /// The bytes at these indices, each below 16.
     #[inline(always)]
     pub(crate) fn swizzle_dyn(self, indices: Self) -> Self {
@@ -289,11 +289,6 @@ impl u8x32 {
 }
 
 impl u32x8 {
-    #[inline(always)]
-    pub(crate) fn simd_eq(self, other: Self) -> Self {
-        u32x8(eight::eq(self.0, other.0))
-    }
-
     #[inline(always)]
     pub(crate) fn simd_ge(self, other: Self) -> Self {
         u32x8(eight::ge(self.0, other.0))

@@ -23,14 +23,20 @@ def head(path=""):
     return f"{time.strftime('%Y-%m-%d')}, {machine}, load {os.getloadavg()[0]:.0f}{compiler}"
 
 
-def turns(ways, rounds, clock=time.process_time):
-    """The least seconds of each call, by its name. In each round each has its turn."""
+def processor_time(call):
+    """The seconds of a processor that a call takes."""
+    start = time.process_time()
+    call()
+    return time.process_time() - start
+
+
+def turns(ways, rounds, timed=processor_time):
+    """The least time of each way, by its name: `timed` takes one and returns its time. In each round each has its turn."""
     least = {}
     for _ in range(rounds):
-        for name, call in ways.items():
-            start = clock()
-            call()
-            least[name] = min(least.get(name, 1e9), clock() - start)
+        for name, way in ways.items():
+            took = timed(way)
+            least[name] = min(least.get(name, took), took)
     return least
 
 

@@ -14,7 +14,8 @@ import sys
 import tempfile
 
 sys.path.insert(1, f"{sys.path[0]}/..")
-from common import run
+from common import called
+import choosing
 import measured
 import pg_server
 import postgres
@@ -33,47 +34,26 @@ WAYS = {"rows with a primary key": "postings", "`int4[]`, intarray": "arrays", "
 # How each table answers: {A} and {B} are words, {D} a document. A join is how rows answer an AND.
 JOIN = "FROM postings a JOIN postings b USING (doc) WHERE a.word = {A} AND b.word = {B}"
 UNION = "FROM (SELECT doc FROM postings WHERE word = {A} UNION SELECT doc FROM postings WHERE word = {B}) u"
-AND, OUT, OR = "A and B: how many", "A and B: the documents", "A or B: how many"
-RAREST = "A and the rarest word: how many"
-HAS, WHICH, ALL = "whether A has a document", "words of a document, by a scan", "all documents of all words"
+ARRAYS, PACKED = (f"FROM {it} a, {it} b WHERE a.word = {{A}} AND b.word = {{B}}" for it in ("arrays", "packed"))
+AND, HAS = "A and B: how many", "SELECT count(*) FROM {} WHERE word = {{A}} AND {}"
 QUERIES = {
-    AND: {
-        "postings": f"SELECT count(*) {JOIN}",
-        "arrays": "SELECT icount(a.ids & b.ids) FROM {T}",
-        "packed": "SELECT intersect_len(a.ids, b.ids) FROM {T}",
-    },
-    OUT: {
-        "postings": f"SELECT doc {JOIN}",
-        "arrays": "SELECT unnest(a.ids & b.ids) FROM {T}",
-        "packed": "SELECT unnest(a.ids & b.ids) FROM {T}",
-    },
-    OR: {
-        "postings": f"SELECT count(*) {UNION}",
-        "arrays": "SELECT icount(a.ids | b.ids) FROM {T}",
-        "packed": "SELECT cardinality(a.ids | b.ids) FROM {T}",
-    },
-    HAS: {
-        "postings": "SELECT count(*) FROM postings WHERE word = {A} AND doc = {D}",
-        "arrays": "SELECT count(*) FROM arrays WHERE word = {A} AND ids @> ARRAY[{D}]",
-        "packed": "SELECT count(*) FROM packed WHERE word = {A} AND contains(ids, {D})",
-    },
-    WHICH: {
-        "postings": "SELECT count(*) FROM postings WHERE doc = {D}",
-        "arrays": "SELECT count(*) FROM arrays WHERE ids @> ARRAY[{D}]",
-        "packed": "SELECT count(*) FROM packed WHERE contains(ids, {D})",
-    },
-    ALL: {
-        "postings": "SELECT count(doc) FROM postings",
-        "arrays": "SELECT count(id) FROM (SELECT unnest(ids) AS id FROM arrays) q",
-        "packed": "SELECT count(id) FROM (SELECT unnest(ids) AS id FROM packed) q",
-    },
+    AND: (f"SELECT count(*) {JOIN}", f"SELECT icount(a.ids & b.ids) {ARRAYS}", f"SELECT intersect_len(a.ids, b.ids) {PACKED}"),
+    "A and B: the documents": (f"SELECT doc {JOIN}", f"SELECT unnest(a.ids & b.ids) {ARRAYS}", f"SELECT unnest(a.ids & b.ids) {PACKED}"),
+    "A or B: how many": (
+        f"SELECT count(*) {UNION}",
+        f"SELECT icount(a.ids | b.ids) {ARRAYS}",
+        f"SELECT cardinality(a.ids | b.ids) {PACKED}",
+    ),
+    "whether A has a document": (
+        HAS.format("postings", "doc = {D}"),
+        HAS.format("arrays", "ids @> ARRAY[{D}]"),
+        HAS.format("packed", "contains(ids, {D})"),
+    ),
+    "all documents of all words": (
+        "SELECT count(doc) FROM postings",
+        *(f"SELECT count(id) FROM (SELECT unnest(ids) AS id FROM {it}) q" for it in ("arrays", "packed")),
+    ),
 }
-
-
-def filled(query, table, words):
-    """A query over a table, with the words and the document in it."""
-    pair = f"{table} a, {table} b WHERE a.word = {{A}} AND b.word = {{B}}"
-    return query.replace("{T}", pair).format(**words)
 
 
 def milliseconds(server, sql):
@@ -92,32 +72,26 @@ def sizes(server):
 
 def timed(server, rounds):
     """The least time of each query, in milliseconds. First all tables have to answer the same."""
-    rare = server.rows("SELECT word FROM packed ORDER BY cardinality(ids), word LIMIT 1")
     doc = server.rows("SELECT doc FROM postings WHERE word = 0 ORDER BY doc OFFSET 50000 LIMIT 1")
     for name, queries in QUERIES.items():
-        asked_of = [(name, {"A": 0, "B": 1, "D": doc})] + [(RAREST, {"A": rare, "B": 0, "D": doc})] * (name == AND)
-        for what, words in asked_of:
-            asked = {it: filled(queries[table], table, words) for it, table in WAYS.items()}
-            answers = {it: sorted(server.rows(sql).split("\n")) for it, sql in asked.items()}
-            if any(it != answers["`idset`"] for it in answers.values()):
-                sys.exit(f"{name}: the answers differ")
-            least = dict.fromkeys(asked, 1e9)
-            for _ in range(rounds):
-                least = {it: min(least[it], milliseconds(server, sql)) for it, sql in asked.items()}
-            yield f"{what}, ms", {it: f"{value:.2f}" for it, value in least.items()}
+        asked = {it: query.format(A=0, B=1, D=doc) for it, query in zip(WAYS, queries)}
+        if len({tuple(sorted(server.rows(sql).split("\n"))) for sql in asked.values()}) > 1:
+            sys.exit(f"{name}: the answers differ")
+        least = measured.turns(asked, rounds, lambda sql: milliseconds(server, sql))
+        yield f"{name}, ms", {it: f"{value:.2f}" for it, value in least.items()}
 
 
 def rates(server, seconds, folder):
     """How many AND of two random words 100 clients of pgbench get in a second."""
     found, path = {}, f"{folder}/query.sql"
-    for it, table in WAYS.items():
-        query = " ".join(filled(QUERIES[AND][table], table, {"A": ":a", "B": ":b"}).split())
-        with open(path, "w", encoding="ascii") as file:
-            file.write(f"\\set a random(0, {WORDS - 1})\n\\set b random(0, {WORDS - 1})\n{query};\n")
+    for it, query in zip(WAYS, QUERIES[AND]):
+        drawn = "".join(f"\\set {word} random(0, {WORDS - 1})\n" for word in "ab")
+        choosing.written(path, f"{drawn}{query.format(A=':a', B=':b')};\n")
         words = ["-n", "-M", "prepared", "-c", str(CLIENTS), "-j", "2", "-T", str(seconds), "-f", path]
-        said = run(server.programs.path("pgbench"), *words, env=server.known).stdout
+        # A failed query ends the script. The clients connect within these seconds, and if that takes all of them there is no rate.
+        said = called(server.programs.path("pgbench"), *words, env=server.known)
         tps = re.search(r"tps = ([\d.]+)", said)
-        found[it] = f"{float(tps[1]):,.0f}" if tps else f"failed: {said[-300:]}"
+        found[it] = f"{float(tps[1]):,.0f}" if tps else "too few seconds"
     yield f"AND of two random words by {CLIENTS} clients, in a second", found
 
 

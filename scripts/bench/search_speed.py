@@ -2,13 +2,13 @@
 """Measures queries over the words of a machine's text files: id sets beside plain arrays, CRoaring and Xapian, and the ten best documents by sets and
 columns beside a scan and Xapian. Prints the two tables of docs/SPEED.md, and the numbers of README.md:
 
-    scripts/bench/search_speed.py [--rounds N] [--core N] [--megabytes N] [--roaring FOLDER] [--keep FOLDER] [FOLDER ..]
+    scripts/bench/search_speed.py [--rounds N] [--core N] [--megabytes N] [--roaring FOLDER] [FOLDER ..]
     scripts/bench/search_speed.py --try
 
 A document is a paragraph of the first 300 MB of text below the folders, /usr/share and /usr/include if none is given. It has to be 200 MB with 400,000
 paragraphs: `apt-get install linux-doc` brings 150 MB. All ways answer the same random queries in one process on one core, in turns; the answers have
-to be the same. It needs g++, cargo, and of Debian libroaring-dev and libxapian-dev. Debian's CRoaring is built for any x86-64: --roaring takes in its
-place one built for this processor, from its sources in FOLDER (`apt-get source libroaring-dev`). --keep leaves the files in FOLDER.
+to be the same. It needs g++, and of Debian libroaring-dev and libxapian-dev. Debian's CRoaring is built for any x86-64: --roaring takes in its
+place one built for this processor, from its sources in FOLDER (`apt-get source libroaring-dev`).
 
 --try measures nothing, and compares the answers on examples/search/corpus/. Ways that are not installed are left out. The last line is then
 'N passed, M failed'.
@@ -21,12 +21,11 @@ import math
 import os
 import random
 import re
-import shutil
 import sys
 import tempfile
 
 sys.path.insert(1, f"{sys.path[0]}/..")
-from common import ROOT, ended, leave_out, left_out_without, run
+from common import ROOT, Failed, called, leave_out, left_out_without, report, run
 import measured
 
 HERE, CORPUS = f"{ROOT}/scripts/bench/search_speed", f"{ROOT}/examples/search/corpus"
@@ -68,7 +67,7 @@ def texts(folders):
                         yield text
 
 
-def write_words(folders, folder, most=10**9, one_of=200):
+def write_words(folders, folder, most, one_of):
     """Writes the documents of each word, how often each has it, and the classes of their lengths. Returns how many documents there are, how many each
     word has, and the words of one document of some."""
     ids, counts, classes, chosen, size = {}, {}, bytearray(), [], 0
@@ -112,72 +111,50 @@ def write_queries(path, documents, lens, chosen, sets):
 
 
 def built(folder, library, roaring, level):
-    """Builds the two programs. Returns why that failed, or None."""
+    """Builds the program."""
     defines = [
         name for name, (path, package) in NEEDS.items() if os.path.exists(path) or leave_out(f"the way {name}", f"without {package}")
     ]
     words = ["g++", "-std=c++17", level, "-Wall", "-Wextra", "-Werror", "-pthread", f"-I{ROOT}/include", *(f"-D{it}" for it in defines)]
-    words += [f"{HERE}/{it}.cpp" for it in ("main", "sets", "arrays", *map(str.lower, defines))] + [library, "-o", f"{folder}/search"]
+    words += [f"{HERE}/main.cpp", library, "-o", f"{folder}/search"]
     if roaring:
         sources = glob.glob(f"{roaring}/src/**/*.c", recursive=True)
-        done = run("cc", "-O3", "-march=native", "-w", f"-I{roaring}/include", "-c", *sources, folder=folder)
-        if done.returncode != 0:
-            return done.stdout[-3000:]
+        called("cc", "-O3", "-march=native", "-w", f"-I{roaring}/include", "-c", *sources, folder=folder)
         words += [f"-I{roaring}/include", *glob.glob(f"{folder}/*.o")]
     words += ["-lroaring"] * ("ROARING" in defines and not roaring)
     words += run("xapian-config", "--cxxflags", "--libs").stdout.split() if "XAPIAN" in defines else []
-    with open(f"{folder}/Cargo.toml", "w", encoding="ascii") as file:
-        file.write(
-            f'[package]\nname = "ranked"\nversion = "0.1.0"\nedition = "2024"\n\n[[bin]]\nname = "ranked"\npath = "{HERE}/ranked.rs"\n\n'
-        )
-        file.write(f'[dependencies]\nbitpacking = {{ path = "{ROOT}" }}\n\n[profile.release]\nlto = true\n\n[workspace]\n')
-    env = dict(os.environ, CARGO_TARGET_DIR=f"{ROOT}/out/ranked", RUSTFLAGS=f"-D warnings{' -C target-cpu=native' * (level == '-O3')}")
-    commands = [words, ["cargo", "build", "--release", "--offline", "--quiet", "--manifest-path", f"{folder}/Cargo.toml"]]
-    return next((done.stdout[-3000:] for done in (run(*it, env=env) for it in commands) if done.returncode != 0), None)
+    called(*words)
 
 
-def measure(folder, rounds, pinned=()):
-    """What the two programs measure: rows of words."""
-    said = []
-    for program in f"{ROOT}/out/ranked/release/ranked", f"{folder}/search":
-        done = run(*pinned, program, folder, str(rounds))
-        if done.returncode != 0:
-            raise RuntimeError(done.stdout[-3000:])
-        said += [line.split("\t") for line in done.stdout.splitlines()]
-    return said
+def measure(folder, tops, given, one_of, level, *pinned):
+    """Measures queries over the words below some folders. Returns how many postings there are, and rows of words."""
+    built(folder, measured.library(), given.roaring and os.path.realpath(given.roaring), level)
+    sizes, lens, chosen = write_words(tops, folder, 10**6 * given.megabytes, one_of)
+    few = [f"{sizes[name]:,} {name} are too few" for name, least in LEAST.items() if sizes[name] < least]
+    if few and not given.only_try:
+        sys.exit(f"{', '.join(few)}: name more folders, or `apt-get install linux-doc`")
+    for name, sets in ("queries", SETS), ("ranked", RANKED):
+        write_queries(f"{folder}/{name}", sizes["paragraphs"], lens, chosen, sets)
+    said = called(*pinned, f"{folder}/search", folder, str(given.rounds))
+    return sum(lens), [line.split("\t") for line in said.splitlines()]
 
 
 def show(said, postings):
     """Prints the tables of sets and of ranking, and that of README.md: the speed of each way as a share of CRoaring's."""
-    tables = {"queries": (SETS, lambda it: f"{1 / it:,.0f}"), "ranked": (RANKED, lambda it: f"{1e3 * it:.2f}")}
-    found = {(its, list(tables[its][0])[int(number)], way): float(value) for its, number, way, value in said if its in tables}
-    for file, (sets, form) in tables.items():
-        ways = list(dict.fromkeys(way for its, _, way in found if its == file))
-        rows = [(name, {way: form(found[file, name, way]) for way in ways if (file, name, way) in found}) for name in sets]
-        if file == "queries":
-            rows.insert(0, ("bits a posting", {way: f"{8 * int(value) / postings:.2f}" for its, _, way, value in said if its == "bytes"}))
-        measured.show("queries a second" if file == "queries" else "the best ten, ms a query", ways, rows)
-    shares = {}
-    for (file, name, way), seconds in found.items():
-        if file == "queries" and (file, name, "CRoaring") in found:
-            shares.setdefault(name, {})[way] = f"{found[file, name, 'CRoaring'] / seconds:.2f}"
-    measured.show("speed, CRoaring = 1", ["sets", "CRoaring", "arrays", "Xapian"], shares.items())
+    found = collections.defaultdict(dict)
+    for file, number, way, value in said:
+        found[file, number][way] = float(value)
 
+    def rows(file, sets, form):
+        for number, name in enumerate(sets):
+            its = found[file, str(number)]
+            yield name, {way: form(it, its) for way, it in its.items()}
 
-def tried(folder):
-    """Compares the answers of all ways on a small corpus. Returns the status of the script."""
-    why, said = built(folder, measured.library(), None, "-O1"), []
-    if not why:
-        found, lens, chosen = write_words([CORPUS], folder, one_of=1)
-        for name, sets in ("queries", SETS), ("ranked", RANKED):
-            write_queries(f"{folder}/{name}", found["paragraphs"], lens, chosen, sets)
-        try:
-            said = measure(folder, 1)
-            show(said, sum(lens))
-        except RuntimeError as failed:
-            why = str(failed)
-    print(f"FAILED: the ways to keep doc ids: {why}\n" if why else "", end="")
-    return ended(len(said), len([why] if why or len(said) <= len(SETS) + len(RANKED) else []))
+    bits = {way: f"{8 * it / postings:.2f}" for way, it in found["bytes", ""].items()}
+    measured.show("queries a second", bits, [("bits a posting", bits), *rows("queries", SETS, lambda it, _: f"{1 / it:,.0f}")])
+    measured.show("the best ten, ms a query", found["ranked", "0"], rows("ranked", RANKED, lambda it, _: f"{1e3 * it:.2f}"))
+    shares = rows("queries", SETS, lambda it, its: f"{its.get('CRoaring', 0) / it:.2f}")
+    measured.show("speed, CRoaring = 1", ["sets", "CRoaring", "arrays", "Xapian"], shares)
 
 
 def main():
@@ -186,30 +163,23 @@ def main():
     parser.add_argument("--rounds", type=int, default=5)
     parser.add_argument("--megabytes", type=int, default=300)
     parser.add_argument("--roaring")
-    parser.add_argument("--keep")
     parser.add_argument("--try", action="store_true", dest="only_try")
     parser.add_argument("folders", nargs="*", default=["/usr/share", "/usr/include"])
     given = parser.parse_args()
-    if left_out_without("the ways to keep doc ids", "g++", "cargo"):
+    if left_out_without("the ways to keep doc ids", "g++"):
         return 0
     with tempfile.TemporaryDirectory(prefix="search-speed-") as folder:
         if given.only_try:
-            return tried(folder)
-        folder, library = given.keep or folder, measured.library()
-        os.makedirs(folder, exist_ok=True)
-        why = built(folder, library, given.roaring and os.path.realpath(given.roaring), "-O3")
-        if why:
-            sys.exit(why)
-        shutil.rmtree(f"{folder}/xapian", ignore_errors=True)
-        found, lens, chosen = write_words(given.folders, folder, 10**6 * given.megabytes)
-        for name, least in LEAST.items():
-            if found[name] < least:
-                sys.exit(f"{found[name]:,} {name} are too few: name more folders, or `apt-get install linux-doc`")
-        for name, sets in ("queries", SETS), ("ranked", RANKED):
-            write_queries(f"{folder}/{name}", found["paragraphs"], lens, chosen, sets)
-        said = measure(folder, given.rounds, ["taskset", "-c", given.core])
-        print(measured.head(library))
-        show(said, sum(lens))
+            given.rounds = 1
+            try:
+                postings, said = measure(folder, [CORPUS], given, 1, "-O1")
+            except Failed as why:
+                return report([("the ways to keep doc ids", str(why))])
+            show(said, postings)
+            return report((" ".join(its), None) for its in said)
+        postings, said = measure(folder, given.folders, given, 200, "-O3", "taskset", "-c", given.core)
+        print(measured.head(measured.library()))
+        show(said, postings)
     return 0
 
 

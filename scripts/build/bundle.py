@@ -6,19 +6,15 @@ vectors, the licence, all pages, and scripts/build/install.py.
     bundle.py FOLDER
 
 The files lie as in the repository, in a folder with the name of the bundle, so that the commands of the pages work there, but for those that
-build and check, with the modes that they have there. They are those of the last commit: if git reports a change, or a file that it does not
-track, nothing is written. The same files give the same bytes. The archives are those that scripts/build/archives.py wrote, which is called if
-they are not there. It prints the names of the files that it wrote. The status is 0, 1 if it failed, or 2 if it was called wrongly or lacks a
-tool.
+build and check. They are those of the last commit: if git reports a change, or a file that it does not track, nothing is written. The same files
+give the same bytes. It prints the names of the files that it wrote. The status is 0, 1 if it failed, or 2 if it was called wrongly or lacks a tool.
 """
 import glob
-import gzip
 import os
 import sys
-import tarfile
 
 sys.path.insert(1, f"{sys.path[0]}/..")
-from common import ROOT, missing, run, version, words
+from common import ROOT, Failed, called, missing, run, version, words
 import archives
 
 PAGES = ["LICENSE", "README.md", "CHANGELOG.md", "CONTRIBUTING.md", "docs/*.md", "docs/*/*.svg", "crates/*/README.md", "rust/README.md"]
@@ -28,20 +24,10 @@ FILES += ["Cargo.toml", "Cargo.lock", "crates/*/src/**/*.rt", "rust/c/*.*"]
 FILES += [f"rust/{it}/**/*.rs" for it in ("src", "translate/src", "examples", "vectors")]
 FILES += ["python/*.md", "python/pyproject.toml", "python/setup.py", "python/src/core/*.[ch]", "python/src/fimulowen/*.py*"]
 FILES += ["python/src/fimulowen/py.typed", "python/tests/*.py"]
-FILES += [
-    "postgres/Makefile",
-    "postgres/idset*.sql",
-    "postgres/idset.control",
-    "postgres/src/*.[ch]",
-    "postgres/sql/*.sql",
-    "postgres/expected/*.out",
-]
+FILES += [f"postgres/{it}" for it in ("Makefile", "idset*.sql", "idset.control", "src/*.[ch]", "sql/*.sql", "expected/*.out")]
 # PROOFS links the scripts of its last rows.
-FILES += [
-    "scripts/lint/*.py",
-    "scripts/common.py",
-    *(f"scripts/build/{it}.py" for it in ("install", "archives", "by_cargo", "choosing", "fast", "proving")),
-]
+FILES += ["scripts/lint/*.py", "scripts/common.py"]
+FILES += [f"scripts/build/{it}.py" for it in ("install", "archives", "by_cargo", "choosing", "proving")]
 # The archives of each processor, by the name that `uname -m` gives it.
 ARCHIVES = {"x86_64": ["rust/out/libbitpacking.a", "rust/out/x86-64*/*.a"], "aarch64": ["rust/out/aarch64*/*.a"]}
 
@@ -59,58 +45,42 @@ def changed():
     return done.stdout.splitlines() if done.returncode == 0 else [done.stdout]
 
 
-def matching(forms):
-    found = [glob.glob(f"{ROOT}/{form}", recursive=True) for form in forms]
-    return {os.path.relpath(path, ROOT) for files in found for path in files if os.path.isfile(path)}
-
-
 def paths(processor):
     """The files of a bundle, by their paths in the repository: archives, and others only if git tracks them."""
-    tracked = run("git", "ls-files", "-z").stdout.split("\0")
-    return sorted(matching(FILES).intersection(tracked) | matching(ARCHIVES[processor]))
-
-
-def plain(entry):
-    """An entry as anyone would write it at any time."""
-    entry.uid = entry.gid = entry.mtime = 0
-    entry.uname = entry.gname = ""
-    entry.mode = 0o755 if entry.mode & 0o100 else 0o644
-    return entry
+    tracked = run("git", "ls-files", "-z", *(f":(glob){form}" for form in FILES)).stdout.split("\0")
+    built = {it for form in ARCHIVES[processor] for it in glob.glob(form, root_dir=ROOT)}
+    return sorted(built.union(it for it in tracked if os.path.isfile(f"{ROOT}/{it}")))
 
 
 def write(folder, processor):
-    """Writes the bundle of a processor into a folder. Returns its path."""
+    """Writes the bundle of a processor into a folder, as anyone would write it at any time. Returns its path."""
     path = f"{folder}/{name_of(processor)}.tar.gz"
-    with open(path, "wb") as file, gzip.GzipFile("", "wb", 9, file, mtime=0) as packed:
-        with tarfile.open(fileobj=packed, mode="w", format=tarfile.USTAR_FORMAT) as bundle:
-            for name in paths(processor):
-                bundle.add(f"{ROOT}/{name}", f"{name_of(processor)}/{name}", filter=plain)
+    like = ["--format=ustar", "--owner=0", "--group=0", "--numeric-owner", "--mtime=@0", "--mode=u=rwX,go=rX"]
+    like += [f"--transform=s,^,{name_of(processor)}/,", "--use-compress-program=gzip -9n"]
+    called("tar", *like, "--create", f"--file={path}", "--null", "--files-from=-", input="\0".join(paths(processor)))
     return path
 
 
+def why_not(in_check=False):
+    """Why no bundle can be written, or None."""
+    if not in_check and changed():
+        return f"this is not in the last commit: {changed()[0]}"
+    return "the archives are not proved: scripts/build/archives.py builds those that are" if archives.are_fast() else None
+
+
 def main():
-    given = words()
-    if len(given) != 1:
+    given, lacking = words(), missing(*archives.TOOLS)
+    if len(given) != 1 or not os.path.isdir(given[0]):
         print("usage: bundle.py FOLDER", file=sys.stderr)
         return 2
-    if not os.path.isdir(given[0]):
-        print(f"bundle.py: {given[0]} is not a folder", file=sys.stderr)
-        return 2
-    if changed():
-        print(f"bundle.py: this is not in the last commit: {changed()[0]}", file=sys.stderr)
-        return 1
-    lacking = missing(*archives.TOOLS)
-    if lacking:
-        print(f"bundle.py: there is no {' and no '.join(lacking)}", file=sys.stderr)
-        return 2
-    if archives.are_fast():
-        print("bundle.py: the archives are not proved: scripts/build/archives.py builds those that are", file=sys.stderr)
-        return 1
-    if archives.build()[1] > 0:
-        print("bundle.py: an archive is not right", file=sys.stderr)
-        return 1
-    for processor in ARCHIVES:
-        print(write(given[0], processor))
+    try:
+        if why := why_not() or (f"there is no {' and no '.join(lacking)}" if lacking else None):
+            raise Failed(why)
+        archives.need()
+        print(*(write(given[0], processor) for processor in ARCHIVES), sep="\n")
+    except Failed as why:
+        print(f"bundle.py: {why}", file=sys.stderr)
+        return 2 if lacking else 1
     return 0
 
 

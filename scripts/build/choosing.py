@@ -5,7 +5,7 @@ import os
 import re
 import tempfile
 
-from common import ROOT, run, source
+from common import ROOT, called, run, source
 
 LEVELS = {"v1": "x86-64", "v2": "x86-64-v2", "v3": "x86-64-v3"}
 CHOICE = "c/levels.c"
@@ -43,40 +43,25 @@ def chooser():
 
 
 def written(path, text):
-    with open(path, "w", encoding="ascii") as file:
+    with open(path, "w", encoding="utf-8") as file:
         file.write(text)
 
 
-def compiled(to):
-    """Compiles the C file into an object. Returns what the compiler says if it fails, or None."""
-    with tempfile.TemporaryDirectory(prefix="levels-") as folder:
-        written(f"{folder}/levels.c", chooser())
-        done = run("cc", *WARNED, *COMPILED, "-c", f"{folder}/levels.c", "-o", to)
-        return None if done.returncode == 0 else done.stdout
-
-
-def joined(paths, archive, *more):
+def joined(paths, archive):
     """Writes the archive for all levels: one object, which shows the names of the header alone. `paths` has the archive of each level by its
-    prefix in LEVELS. Each name that an archive has beside those of the header is shown with the prefix. Returns why that failed, or None.
-    """
-    with tempfile.TemporaryDirectory(prefix="levels-") as folder:
-        why = compiled(f"{folder}/levels.o")
-        if why:
-            return why
-        names = sorted(prototypes())
-        written(f"{folder}/names", "".join(f"{it}\n" for it in [*names, *(f"{prefix}_{it}" for prefix in paths for it in more)]))
+    prefix in LEVELS. Returns its path."""
+    names = sorted(prototypes())
+    with tempfile.TemporaryDirectory(prefix="levels-", dir=os.path.dirname(archive)) as folder:
+        written(f"{folder}/levels.c", chooser())
+        written(f"{folder}/names", "".join(f"{it}\n" for it in names))
         for prefix in paths:
-            written(f"{folder}/{prefix}", "".join(f"{it} {prefix}_{it}\n" for it in [*names, *more]))
+            written(f"{folder}/{prefix}", "".join(f"{it} {prefix}_{it}\n" for it in names))
         objects = [f"{folder}/{prefix}.a" for prefix in paths]
-        if os.path.exists(archive):
-            os.remove(archive)
-        for command in [
-            *(["objcopy", f"--redefine-syms={folder}/{prefix}", path, to] for (prefix, path), to in zip(paths.items(), objects)),
-            ["ld", "-r", "--whole-archive", f"{folder}/levels.o", *objects, "-o", f"{folder}/bitpacking.o"],
-            ["objcopy", f"--keep-global-symbols={folder}/names", f"{folder}/bitpacking.o"],
-            ["ar", "rcsD", archive, f"{folder}/bitpacking.o"],
-        ]:
-            done = run(*command)
-            if done.returncode != 0:
-                return done.stdout
-    return None
+        called("cc", *WARNED, *COMPILED, "-c", f"{folder}/levels.c", "-o", f"{folder}/levels.o")
+        for (prefix, path), to in zip(paths.items(), objects):
+            called("objcopy", f"--redefine-syms={folder}/{prefix}", path, to)
+        called("ld", "-r", "--whole-archive", f"{folder}/levels.o", *objects, "-o", f"{folder}/bitpacking.o")
+        called("objcopy", f"--keep-global-symbols={folder}/names", f"{folder}/bitpacking.o")
+        called("ar", "rcsD", f"{folder}/bitpacking.a", f"{folder}/bitpacking.o")
+        os.replace(f"{folder}/bitpacking.a", archive)
+    return archive

@@ -8,15 +8,14 @@
 
 LEVEL is that of the archive: x86-64, x86-64-v2 or x86-64-v3; without it the archive for all levels is installed; for aarch64 LEVEL is
 aarch64-unknown-linux-gnu, and CC has to name a compiler for it. The archives are those that scripts/build/archives.py wrote; a bundle has them.
-They are proved, or else installed as version 0.0.0. If the variable DESTDIR is set, all is written below that folder, as packages want it, and
-names PREFIX alone.
+If the variable DESTDIR is set, all is written below that folder, as packages want it, and names PREFIX alone.
 
-With `--from cargo` the library for x86-64 is compiled by cargo from the proved sources, without the prover's compiler: the last line says so, and
-lib/pkgconfig/bitpacking.pc, and the variable bitpacking_COMPILER of CMake. Its version is the true one.
+With `--from cargo` the library for x86-64 is compiled by cargo from the proved sources, without the prover's compiler, as it is after
+`archives.py --fast`: the last line says so, and lib/pkgconfig/bitpacking.pc, and the variable bitpacking_COMPILER of CMake.
 
 The shared library exports each function of the header, the one that is only inline there too. Its name ends with the major version: programs need
 a new link after a change of that. The names of what was written are in share/bitpacking/installed. A file that another program wrote is not
-replaced. The last line says what was installed. The status is 0, 1 if it failed, or 2 if it was called wrongly or lacks a tool.
+replaced. The status is 0, 1 if it failed, or 2 if it was called wrongly or lacks a tool.
 """
 import os
 import re
@@ -25,11 +24,10 @@ import sys
 import tempfile
 
 sys.path.insert(1, f"{sys.path[0]}/..")
-from common import ROOT, missing, run, source
+from common import ROOT, Failed, called, missing, source
 import archives
 import by_cargo
 import choosing
-import fast
 
 CC = os.environ.get("CC", "cc")
 HEADER, STATIC, LINK = "include/bitpacking.h", "lib/libbitpacking.a", "lib/libbitpacking.so"
@@ -80,19 +78,9 @@ endif()
 """
 
 
-class Failed(Exception):
-    """Why nothing was installed or removed."""
-
-
-def header_of(archive):
-    """The header that goes with an archive: one that is not proved has no version."""
-    return source(HEADER) if archives.are_given() or not fast.is_marked(archive) else fast.header()
-
-
-def version(header=None):
-    """The version that a header has, with points: 1.2.3 for the number 1002003."""
-    found = re.search(r"^#define BITPACKING_VERSION (\d+)", header or source(HEADER), re.M)
-    number = int(found[1]) if found else 0
+def version():
+    """The version that the header has, with points: 1.2.3 for the number 1002003."""
+    number = int(re.search(r"^#define BITPACKING_VERSION (\d+)", source(HEADER), re.M)[1])
     return f"{number // 1000000}.{number // 1000 % 1000}.{number % 1000}"
 
 
@@ -101,21 +89,15 @@ def shared_library():
     return f"{LINK}.{version().split('.')[0]}"
 
 
-def exported():
-    """The functions of the shared library: those that the header declares, and those that it defines for C alone."""
-    return sorted({*choosing.prototypes(), *re.findall(r"\((bitpacking_\w+)\)\(", source(SYMBOLS))})
-
-
 def linked(archive, folder):
     """Links an archive as a shared library, in which only the names of the header can be seen, in a folder. Returns its path."""
     names, path = f"{folder}/names", f"{folder}/{os.path.basename(shared_library())}"
-    with open(names, "w", encoding="ascii") as file:
-        file.write(f"{{ global: {' '.join(f'{name};' for name in exported())} local: *; }};\n")
+    # Those that the header declares, and those that it defines for C alone.
+    exported = sorted({*choosing.prototypes(), *re.findall(r"\((bitpacking_\w+)\)\(", source(SYMBOLS))})
+    choosing.written(names, f"{{ global: {' '.join(f'{name};' for name in exported)} local: *; }};\n")
     words = ["-shared", f"-Wl,-soname,{os.path.basename(path)}", f"-Wl,--version-script={names}", "-Wl,-z,defs,-z,relro,-z,now"]
     compiled = ["-std=c99", "-O2", "-fPIC", f"-I{ROOT}/include", f"{ROOT}/{SYMBOLS}"]
-    done = run(CC, *words, *compiled, "-Wl,--whole-archive", archive, "-Wl,--no-whole-archive", "-o", path)
-    if done.returncode != 0:
-        raise Failed(f"{CC} did not link a shared library: {done.stdout}")
+    called(CC, *words, *compiled, "-Wl,--whole-archive", archive, "-Wl,--no-whole-archive", "-o", path)
     return path
 
 
@@ -129,46 +111,36 @@ def made_folders(prefix, path):
 
 
 def install(prefix, archive, by_rustc=False):
-    """Writes all files below the folder that is named DESTDIR. What was installed there is taken away once the shared library is linked."""
+    """Writes all files below the folder that is named DESTDIR. What was installed there is taken away once the shared library is linked. If a
+    file cannot be written, those before it are taken away again."""
+    root, library = placed(prefix), shared_library()
     with tempfile.TemporaryDirectory(prefix="install-") as folder:
-        shared = linked(archive, folder)
-        if os.path.exists(f"{placed(prefix)}/{NAMES}"):
+        copies, texts = {HEADER: f"{ROOT}/{HEADER}", STATIC: archive, library: linked(archive, folder)}, told(prefix, by_rustc)
+        if os.path.exists(f"{root}/{NAMES}"):
             remove(prefix)
-        return written(shared, prefix, archive, by_rustc)
+        files, made = [*copies, LINK, *texts, NAMES], []
+        others = [it for it in files if os.path.lexists(f"{root}/{it}")]
+        if others:
+            raise Failed(f"{root}/{others[0]} is there, and was not written by this script")
+        try:
+            for path in files:
+                made += made_folders(root, path) + [path]
+                if path in copies:
+                    (shutil.copy if path == library else shutil.copyfile)(copies[path], f"{root}/{path}")
+                elif path == LINK:
+                    os.symlink(os.path.basename(library), f"{root}/{path}")
+                else:
+                    choosing.written(f"{root}/{path}", texts.get(path) or "\n".join(made))
+        except BaseException:
+            taken_away(root, made)
+            raise
+    return f"installed version {version()}{f', {BY_RUSTC},' * by_rustc} under {root}: {' '.join(files)}"
 
 
-def written(shared, prefix, archive, by_rustc):
-    """Writes all files, one of them a shared library that is linked. If one cannot be written, those before it are taken away again."""
-    root, library, header = placed(prefix), shared_library(), header_of(archive)
-    files = [HEADER, STATIC, library, LINK, ASKED, CMAKE, CMAKE_VERSION, NAMES]
-    others = [it for it in files if os.path.lexists(f"{root}/{it}")]
-    if others:
-        raise Failed(f"{root}/{others[0]} is there, and was not written by this script")
-    made, texts = [], told(prefix, version(header), by_rustc)
-    try:
-        for path in files:
-            made += made_folders(root, path) + [path]
-            if path == HEADER:
-                choosing.written(f"{root}/{path}", header)
-            elif path == STATIC:
-                shutil.copyfile(archive, f"{root}/{path}")
-            elif path == library:
-                shutil.copy(shared, f"{root}/{path}")
-            elif path == LINK:
-                os.symlink(os.path.basename(library), f"{root}/{path}")
-            else:
-                with open(f"{root}/{path}", "w", encoding="utf-8") as file:
-                    file.write(texts.get(path) or "\n".join(made))
-    except BaseException:
-        taken_away(root, made)
-        raise
-    return f"installed version {version(header)}{f', {BY_RUSTC},' * by_rustc} under {root}: {' '.join(files)}"
-
-
-def told(prefix, number, by_rustc):
+def told(prefix, by_rustc):
     """The texts of the files that pkg-config and CMake read."""
     compiler, by = ("rustc", f", {BY_RUSTC}") if by_rustc else ("rattle", "")
-    library = shared_library()
+    library, number = shared_library(), version()
     return {
         ASKED: PC.format(prefix=prefix, version=number, compiler=compiler, by=by),
         CMAKE: CONFIG.format(compiler=compiler, library=library, soname=os.path.basename(library), static=STATIC),
@@ -202,25 +174,19 @@ def remove(prefix):
     return f"removed what was installed under {root}"
 
 
-def by_cargo_of(level):
-    """The archive of a level, or of all levels, that cargo compiles."""
-    if level not in ["all", *archives.LEVELS.values()]:
-        raise Failed(f"there is no level {level} by cargo: it is one of {' '.join(archives.LEVELS.values())}")
-    lacking = missing(*by_cargo.TOOLS, CC)
+def archive_of(level, by_rustc):
+    """The archive of a level, or of all levels, which cargo compiles or archives.py wrote."""
+    levels = [*archives.LEVELS.values()] if by_rustc else [*archives.BUILDS]
+    if level not in ["all", *levels]:
+        raise Failed(f"there is no level {level}{' by cargo' * by_rustc}: it is one of {' '.join(levels)}")
+    tools = by_cargo.TOOLS if by_rustc else [] if archives.are_given() else archives.TOOLS
+    lacking = missing(*tools, CC)
     if lacking:
         raise Failed(f"there is no {' and no '.join(lacking)}")
-    return by_cargo.for_all() if level == "all" else by_cargo.archive(level)
-
-
-def archive_of(level):
-    """The archive of a level, or of all levels."""
-    if level not in ["all", *archives.BUILDS]:
-        raise Failed(f"there is no level {level}: it is one of {' '.join(archives.BUILDS)}")
-    lacking = missing(*([] if archives.are_given() else archives.TOOLS), CC)
-    if lacking:
-        raise Failed(f"there is no {' and no '.join(lacking)}")
-    if not archives.are_given() and archives.build()[1] > 0:
-        raise Failed("an archive is not right")
+    if by_rustc:
+        return by_cargo.for_all() if level == "all" else by_cargo.archive(level)
+    if not archives.are_given():
+        archives.need()
     return f"{archives.OUT}/{archives.ALL}" if level == "all" else archives.archive(level)
 
 
@@ -236,9 +202,9 @@ def main():
         if given[1:] == ["--remove"]:
             print(remove(prefix))
         else:
-            by_rustc, level = "--from" in options, options.get("--level", "all")
-            print(install(prefix, by_cargo_of(level) if by_rustc else archive_of(level), by_rustc))
-    except (OSError, Failed, by_cargo.Failed) as why:
+            archive = archive_of(options.get("--level", "all"), "--from" in options)
+            print(install(prefix, archive, "--from" in options or archives.are_fast()))
+    except (OSError, Failed) as why:
         print(f"install.py: {why}", file=sys.stderr)
         return 1
     return 0

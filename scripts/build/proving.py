@@ -24,7 +24,7 @@ PROVED = f"{ROOT}/out/proved"
 EACH, MOST = 5 << 29, 8
 # The words of a verdict that says all: what was proved, for what machine, and by the checks of earlier runs that it trusts. `rt ci` refuses
 # others, such as may-abort, hides and main, and any that it does not know, which may say what is left out.
-SAID = {"logic", "functions", "axioms", "target", "cpu", "sum", "native"}
+SAID = {"functions", "axioms", "target", "cpu", "sum", "native"}
 SAID |= {"logic-built", "libraries-built", "statements", "incremental"}
 
 
@@ -59,16 +59,10 @@ def toolchain():
     return run("rt", "version").stdout
 
 
-@functools.lru_cache(maxsize=None)
-def digest(path, _written, _size):
-    """A number that changes with a file, which is read once."""
+def digest_of(path):
+    """A number that changes with a file."""
     with open(path, "rb") as file:
         return hashlib.sha256(file.read()).digest()
-
-
-def digest_of(path):
-    found = os.stat(path)
-    return digest(path, found.st_mtime_ns, found.st_size)
 
 
 def sources_of(crate, top=ROOT):
@@ -110,35 +104,29 @@ def words_of(crate):
 
 
 def called(crate, tell, *command):
-    """Runs a command in the folder of a crate, and tells each line that it prints."""
+    """Runs a command in the folder of a crate, and tells each line that it prints. Returns the verdicts among these."""
     how = {"stdin": subprocess.DEVNULL, "stdout": subprocess.PIPE, "stderr": subprocess.STDOUT, "text": True, "errors": "replace"}
-    said = collections.deque(maxlen=16)
+    said, verdicts = collections.deque(maxlen=16), []
     tell(crate, f"{crate}: {os.path.basename(command[0])} {command[1]}\n")
     with subprocess.Popen(command, cwd=f"{ROOT}/crates/{crate}", **how) as ran:
         for line in ran.stdout:
             if not re.search(r": proved$|^statements ", line):
                 said.append(line)
+            if line.startswith("logic="):
+                verdicts.append(line)
             tell(crate, line)
     if ran.returncode != 0:
         raise Failed(f"{crate}: {os.path.basename(command[0])} {command[1]} ended with status {ran.returncode}", "".join(said))
+    return verdicts
 
 
 def rattle(crate, tell, verb, *words):
     """Has rattle check or build a crate, and reads the words of its verdicts."""
-    verdicts = []
-
-    def heard(crate, line):
-        if line.startswith("logic="):
-            verdicts.append(line)
-        tell(crate, line)
-
-    called(crate, heard, f"{kit()}/bin/rattle", verb, *words_of(crate), *words)
+    verdicts = called(crate, tell, f"{kit()}/bin/rattle", verb, *words_of(crate), *words)
     if not verdicts:
         raise Failed(f"{crate}: rattle {verb} printed no verdict", "")
     for verdict in verdicts:
-        more = [
-            word for word in verdict.split() if word.partition("=")[0] not in SAID or word.startswith("logic=") and word != "logic=proved"
-        ]
+        more = [it for it in verdict.split() if it != "logic=proved" and it.partition("=")[0] not in SAID]
         if more:
             raise Failed(f"{crate}: the verdict has what no crate of this repository may have: {' '.join(more)}", verdict)
 

@@ -5,17 +5,13 @@
     fimulowen-VERSION-cp311-abi3-linux_x86_64.whl    the Python package
     SHA256SUMS                                       for `sha256sum -c SHA256SUMS`
 
-VERSION is that of CHANGELOG.md, and the files are those of the last commit. They are built in another folder, and are put in place of those of an
-earlier release only if all of them can be used: each bundle in an empty folder, where its library is installed and a program of it in C is run;
-on x86_64 also one in Rust, the first commands of the search engine, and the making of the PostgreSQL extension; the wheel in a new environment,
-without an index; and the checksums, which have to find a changed byte. What is compiled may not name a folder of this machine.
-
-The archives are those that scripts/build/archives.py wrote, which is called if they are not there. With --in-check nothing is put in place, and
-what a tool is missing for is left out, also a commit. The last line is 'N passed, M failed'. The status is 0, 1 if something failed, or 2 if a
-tool is missing.
+VERSION is that of CHANGELOG.md, and the files are those of the last commit. They are put in place of those of an earlier release only if all of them
+can be used: each bundle in an empty folder, where its library is installed and a program of it in C is run; on x86_64 also the first commands of
+the search engine, and the making of the PostgreSQL extension; the wheel in a new environment, without an index; and the checksums. What is
+compiled may not name a folder of this machine. With --in-check nothing is put in place, and what a tool is missing for is left out, also a
+commit. The status is 0, 1 if something failed, or 2 if a tool is missing.
 """
 import glob
-import hashlib
 import os
 import re
 import shutil
@@ -26,21 +22,19 @@ import tempfile
 sys.path.insert(1, f"{sys.path[0]}/..")
 from common import ROOT, leave_out, missing, report, run, source, version, words
 import archives
-import arm
 import bundle
 import c
+import choosing
 import python
-import rust
 
 OUT = f"{ROOT}/out/release"
 SUMS = "SHA256SUMS"
 PROGRAM, PRINTS = "examples/id_set.c", c.PROGRAMS["examples/id_set.c"]
 IN_PYTHON = "import fimulowen; ids = fimulowen.IdSet([7, 9, 10, 300]); print(fimulowen.__version__, ids.nbytes, ids.seek(100))"
-SEARCH = "examples/search/README.md"
-# The folder of the documents that they find.
-FINDS = "docs/"
+# The first commands of this page find documents of a folder.
+SEARCH, FINDS = "examples/search/README.md", "docs/"
 # What compiles C programs for each processor, and what runs them.
-BY_PROCESSOR = {"x86_64": ("cc", []), "aarch64": (arm.CROSS, [arm.QEMU])}
+BY_PROCESSOR = {"x86_64": ("cc", []), "aarch64": (c.CROSS, [c.QEMU])}
 
 
 def wrong(done, wanted=None):
@@ -85,9 +79,7 @@ def unpacked(path, processor):
         with tarfile.open(path) as packed:
             packed.extractall(room, filter="data")
         top, prefix = f"{room}/{bundle.name_of(processor)}", f"{room}/prefix"
-        yield f"the folder of {os.path.basename(path)}", None if os.listdir(room) == [
-            os.path.basename(top)
-        ] else f"it is {os.listdir(room)}"
+        yield f"the folder of {os.path.basename(path)}", None if os.path.isdir(top) else f"it is {os.listdir(room)}"
         yield f"the folders that the archives for {processor} name", ", ".join(named_folders(top)) or None
         if lacking:
             leave_out(f"programs over the bundle for {processor}", f"since there is no {' and no '.join(lacking)}")
@@ -100,17 +92,8 @@ def unpacked(path, processor):
         done = made if made.returncode else run(*runner, f"{room}/program")
         yield f"{PROGRAM} over it for {processor}", wrong(done, PRINTS)
         if processor == "x86_64":
-            yield from in_rust(room, top)
             yield f"the first commands of {SEARCH} in it", in_search(top)
             yield from in_postgres(top)
-
-
-def in_rust(room, top):
-    if missing("cargo"):
-        leave_out("a program in Rust over the bundle", "since there is no cargo")
-        return
-    done = rust.called("run", "--quiet", "--offline", "--example", rust.PROGRAM, folder=top, CARGO_TARGET_DIR=f"{room}/target")
-    yield f"the example {rust.PROGRAM} in Rust over it", rust.printed(done, rust.EXAMPLES[rust.PROGRAM])
 
 
 def in_search(top):
@@ -134,22 +117,10 @@ def in_postgres(top):
 
 
 def sums(folder):
-    """Writes the checksums of all files of a folder. The checks of them."""
-    names = sorted(os.listdir(folder))
-    with open(f"{folder}/{SUMS}", "w", encoding="utf-8") as file:
-        for name in names:
-            with open(f"{folder}/{name}", "rb") as other:
-                file.write(f"{hashlib.sha256(other.read()).hexdigest()}  {name}\n")
+    """Writes the checksums of all files of a folder. The check of them."""
+    done = run("sha256sum", *sorted(os.listdir(folder)), folder=folder)
+    choosing.written(f"{folder}/{SUMS}", done.stdout)
     yield "the checksums", wrong(run("sha256sum", "--check", "--quiet", SUMS, folder=folder))
-    with open(f"{folder}/{names[0]}", "r+b") as file:
-        file.seek(1000)
-        byte = file.read(1)
-        file.seek(1000)
-        file.write(bytes([byte[0] ^ 1]))
-        file.flush()
-        yield "the checksums of a changed byte", None if run("sha256sum", "-c", SUMS, folder=folder).returncode else "it is not found"
-        file.seek(1000)
-        file.write(byte)
 
 
 def checks(folder):
@@ -161,15 +132,11 @@ def checks(folder):
 
 def put_in_place(folder):
     """Replaces the last release by a copy of a folder, once that is whole, and says what is there."""
-    new, old = f"{OUT}.new", f"{OUT}.old"
-    for path in new, old:
-        shutil.rmtree(path, ignore_errors=True)
-    shutil.copytree(folder, new)
-    os.chmod(new, 0o755)
-    if os.path.isdir(OUT):
-        os.rename(OUT, old)
-    os.rename(new, OUT)
-    shutil.rmtree(old, ignore_errors=True)
+    shutil.rmtree(f"{OUT}.new", ignore_errors=True)
+    shutil.copytree(folder, f"{OUT}.new")
+    os.chmod(f"{OUT}.new", 0o755)
+    shutil.rmtree(OUT, ignore_errors=True)
+    os.rename(f"{OUT}.new", OUT)
     print(f"released in {OUT}:", *sorted(os.listdir(OUT)))
 
 
@@ -183,17 +150,14 @@ def released(folder, checks, in_check=False):
 
 def main():
     in_check = "--in-check" in words("--in-check")
-    if not in_check and bundle.changed():
-        print(f"release.py: this is not in the last commit: {bundle.changed()[0]}", file=sys.stderr)
+    if why := bundle.why_not(in_check):
+        print(f"release.py: {why}", file=sys.stderr)
         return 1
     tools = ["cargo", "sha256sum", "pg_config", "make"]
     lacking = missing(*tools, *(it for compiler, runner in BY_PROCESSOR.values() for it in [compiler, *runner]))
     if not in_check and (lacking := lacking + python.chosen()[1]):
         print(f"release.py: there is no {' and no '.join(lacking)}, and nothing was built", file=sys.stderr)
         return 2
-    if archives.are_fast():
-        print("release.py: the archives are not proved: scripts/build/archives.py builds those that are", file=sys.stderr)
-        return 1
     status = archives.status_without("the release", "cc", "sha256sum")
     if status is not None:
         return status

@@ -5,14 +5,11 @@
 - Each claim has an edit, and the last cell of its row names one of them; or this says after `none:` why there is none.
 - An edit names claims of the page, and says in one sentence what it breaks. No other edit of its crate has its name, and its folder is
   that of a module of the crate. A wrong change for a script has no module.
-
-`claims.py --write` names an edit in each row that names none of its own.
 """
 import re
 import sys
 
 sys.path.insert(1, f"{sys.path[0]}/..")
-from common import ROOT, words
 from texts import paths, results, text_of
 import changes
 
@@ -76,29 +73,5 @@ def headers():
         yield from (f"{edit.path}: {it}" for it in why)
 
 
-def write():
-    """Names an edit in each row that names none of its own: one of few claims, with a short name."""
-    listed, text = sorted(edits(), key=lambda it: (len(it.claims), len(it.name), it.name)), text_of(PAGE)
-    for its, *cells in rows():
-        own = [it.name for it in listed if not set(its).isdisjoint(it.claims)]
-        if own and not cells[-1].startswith("none") and cells[-1].strip("`") not in own:
-            text = text.replace("| ".join(cells), "| ".join([*cells[:-1], f"`{own[0]}`"]))
-    with open(f"{ROOT}/{PAGE}", "w", encoding="utf-8") as file:
-        file.write(text)
-
-
-def print_table(listed):
-    """Prints each row of which one of these edits breaks a claim, with the edits."""
-    for its, claim, _, _ in rows():
-        breaking = [it for it in listed if not set(its).isdisjoint(it.claims)]
-        if breaking:
-            print(f"{' '.join(its)}: {claim}")
-        for edit in breaking:
-            print(f"    {edit.path}: {edit.breaks}")
-    return 0
-
-
 if __name__ == "__main__":
-    if "--write" in words("--write"):
-        sys.exit(write())
     sys.exit(results([numbers, claims, headers], "claims"))

@@ -17,14 +17,8 @@ sys.path.insert(1, f"{sys.path[0]}/..")
 from texts import PAGES, at, paths, results, text_of
 
 RUST = r"crates/bitpack_uses/src/.*\.rt|rust/examples/.*\.rs"
-SOURCES = {
-    "rust": RUST,
-    "rs": RUST,
-    "antt": r"crates/bitpack_uses/proofs/.*\.antt",
-    "c": r"examples/.*\.c",
-    "sql": r"docs/POSTGRES\.md",
-    "console": r"examples/numbers/README\.md",
-}
+SOURCES = {"rust": RUST, "rs": RUST, "antt": r"crates/bitpack_uses/proofs/.*\.antt", "c": r"examples/.*\.c"}
+SOURCES |= {"sql": r"docs/POSTGRES\.md", "console": r"examples/numbers/README\.md"}
 # A block, with the last line of text before it. The language of one in a comment of code is Rust.
 BLOCK = re.compile(r"(?ms)^([^\n]*)\n\s*^( *)(```+|~~~+) *(\w*)[^\n]*\n(.*?)^ *\3[^\n]*$")
 NAMED = re.compile(r"\s*<!--\s*(\S+)\s*-->\s*")

@@ -10,25 +10,12 @@ sys.path.insert(1, f"{sys.path[0]}/..")
 from common import version
 from texts import code, paths, results, text_of
 
-C_TYPES = {
-    "u8": "uint8_t",
-    "u32": "uint32_t",
-    "i32": "int32_t",
-    "usize": "size_t",
-    "u64": "uint64_t",
-    "isize": "ptrdiff_t",
-    "QueryStep": "uint32_t",
-}
+C_TYPES = {"usize": "size_t", "isize": "ptrdiff_t", "QueryStep": "uint32_t"}
+C_TYPES |= {"u8": "uint8_t", "u32": "uint32_t", "i32": "int32_t", "u64": "uint64_t"}
 CRATE, RANKED = "crates/bitpacking_c/src", "crates/bitpack_ranked/src"
-STRUCTS = {
-    "SetView": f"{CRATE}/set_view.rt",
-    "SetBuilder": f"{CRATE}/set_builder.rt",
-    "ColumnView": f"{CRATE}/column_view.rt",
-    "ColumnBuilder": f"{CRATE}/column_builder.rt",
-    "TermView": f"{CRATE}/term_view.rt",
-    "Walk": f"{RANKED}/walk.rt",
-    "Scored": f"{RANKED}/found.rt",
-}
+STRUCTS = {"Walk": f"{RANKED}/walk.rt", "Scored": f"{RANKED}/found.rt"}
+STRUCTS |= {f"{it}{what}": f"{CRATE}/{it.lower()}_{what.lower()}.rt" for it in ("Set", "Column") for what in ("View", "Builder")}
+STRUCTS |= {"TermView": f"{CRATE}/term_view.rt"}
 C_TYPES.update({name: "bitpacking" + re.sub("[A-Z]", r"_\g<0>", name.removesuffix("View")).lower() for name in STRUCTS})
 HEADER, LIMITS = "include/bitpacking.h", "crates/bitpacking/src/limits.rt"
 # Where the version is, beside CHANGELOG.md: as a number, a million times the major one, a thousand times the minor one, and the patch; as text.

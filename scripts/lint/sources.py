@@ -7,22 +7,23 @@ import sys
 sys.path.insert(1, f"{sys.path[0]}/..")
 from texts import at, code, end_of_braces, paths, results
 
-PACKERS, LISTS, COLUMNS, C = (f"crates/{name}/src" for name in ("bitpacking", "bitpack_lists", "bitpack_columns", "bitpacking_c"))
+PACKERS, LISTS, COLUMNS = (f"crates/{name}/src" for name in ("bitpacking", "bitpack_lists", "bitpack_columns"))
 MEMORY = f"{PACKERS}/memory.rt"
 COUNTS = ["bitpacking/proofs/memory/Steps", "bitpack_lists/proofs/blocks/reads/Reads", "bitpack_columns/proofs/reads/Reads"]
 BY_HAND = {f"crates/{count}/{name}/Proof.antt" for count in COUNTS for name in ["new", "record"]}
-# The three calls by kind with the counted call of each, and the nine others with the one of the three that each calls.
-COUNTED = ["pack_counted", "unpack_counted", "width_counted"]
-BY_KIND = dict(zip(["compress_kind", "decompress_kind", "num_bits_kind"], COUNTED))
-NINE = {call.replace("_kind", kind): call for call in BY_KIND for kind in ["", "_sorted", "_strictly_sorted"]}
-# The kernels of `bitpacking`: in which functions of which files each may be named, and nowhere else.
-BY_CODES = ["pack_codes", "unpack_codes"]
-KERNELS = {name: {"dispatch/by_width.rt": [it for it in BY_CODES if it[:4] == name[:4]]} for name in ("pack_at", "unpack_at")}
-KERNELS["Rolled"] = {"bitpacker4x.rt": COUNTED, "bitpacker8x.rt": COUNTED, "dispatch/slices.rt": BY_CODES}
-KERNELS["ByWidth"] = {f"bitpacker{lanes}x.rt": COUNTED for lanes in (1, 4, 8)}
-KERNELS["Unrolled"], KERNELS["Widths"] = {"dispatch/by_width.rt": ["pack_at", "unpack_at"]}, {"dispatch/by_width.rt": BY_CODES}
-# What is no use of a kernel: imports that give no other name, and the heads of structs, functions and impls.
-HEADS = r"\buse\b(?![^;]*\bas\b)[^;]*;|\bstruct \w+;|\btype Widths = [^;]*;|\bfn \w+_at\b|\bfor \w+ \{"
+# The three calls by kind with the counted call of each, and the nine others.
+BY_KIND = {"compress_kind": "pack_counted", "decompress_kind": "unpack_counted", "num_bits_kind": "width_counted"}
+NINE = [call.replace("_kind", kind) for call in BY_KIND for kind in ["", "_sorted", "_strictly_sorted"]]
+# Of what counts, and of the packers' calls, which of the functions named here each calls, in the order of the text, by file.
+CALLS = {
+    f"{LISTS}/blocks/reads.rt": "read_entry record read; read_last record read_one; unpack_block unpack_body read; "
+    "unpack_body record body decompress_kind",
+    f"{LISTS}/opened.rt": "get value_in_block value_in_tail",
+    f"{LISTS}/opened/reading.rt": "skip_key read_last; unpack_block_as unpack_block",
+    f"{LISTS}/opened/tail.rt": "value_in_tail read_one; read_tail read_words",
+    f"{PACKERS}/bit_packer.rt": "; ".join(f"{call} {re.match('[a-z]+(_bits)?', call)[0]}_kind" for call in NINE),
+    **{f"{PACKERS}/bitpacker{lanes}x.rt": "; ".join(f"{kind} {call}" for kind, call in BY_KIND.items()) for lanes in (1, 4, 8)},
+}
 # By crate the file of `Reads`, and by file the functions that lend a new one to a call.
 DOORS = {LISTS: f"{LISTS}/blocks/reads.rt", COLUMNS: f"{COLUMNS}/reads.rt"}
 MAKERS = {
@@ -39,7 +40,11 @@ OWN_READS = r"\bstruct Reads \{|\bimpl (Model for )?Reads \{|\bsize_of::<Reads>\
 # The calls of lists that count in no `Reads` of their caller; and what sees the bytes of an opened list, with the functions that may.
 UNCOUNTED = r"(?<!fn )\b(open|get|append_to|encode|decode|upgrade)\b"
 SEEN = r"\b(rest|bytes|packer|read_one|read_words|\w*compress\w*)\b"
-SEEING = {f"{LISTS}/opened.rt": ["open", "of_text", "mark", "unpack_block_as"], f"{LISTS}/opened/tail.rt": ["value_in_tail", "read_tail"]}
+SEEING = {
+    f"{LISTS}/opened.rt": ["open", "of_encoding"],
+    f"{LISTS}/opened/reading.rt": ["skip_key", "unpack_block_as"],
+    f"{LISTS}/opened/tail.rt": ["value_in_tail", "read_tail"],
+}
 # In the files of columns that count: what reads a mark or unpacks, if not by `Reads`, or sees all bytes; and calls that count for no caller.
 COUNTING = [path for path in MAKERS if path.startswith(COLUMNS)]
 READS_BESIDE = (
@@ -47,42 +52,6 @@ READS_BESIDE = (
 )
 NOT_COUNTED = rf"(?<!reads\.)\b(?:({READS_BESIDE})\(|rest\b|bytes\b)"
 LENDING = rf"(?<!fn )\b({'|'.join(sorted({name for path in COUNTING for name in MAKERS[path]}))})\b"
-# The calls of functions in the order of the text, with their loops, by file. Of all calls those that one of these files names are looked at.
-CALLS = f"""
-{LISTS}/blocks/reads.rt: read_entry record read; read_last record read_one; unpack_block unpack_body read; unpack_body record body decompress_kind
-{LISTS}/blocks/testing.rt: test_blocks test_entries test_bodies; test_entries for read_entry
-{LISTS}/blocks/testing.rt: test_bodies for read_entry unpack_body test_block unpack_body
-{LISTS}/blocks/measuring.rt: blocks_len for num_bits_kind; text_len blocks_len; width_of num_bits_kind
-{LISTS}/v1/reading.rt: decode test_version1 read_blocks; test_version1 test_chain; test_chain for test_first_block
-{LISTS}/v1/reading.rt: read_blocks for read_block; read_block unpack_block; unpack_block decompress_kind
-{LISTS}/v1/writing.rt: encode text_len write_blocks; write_blocks for width_of write_block; write_block compress_kind
-{LISTS}/v2/opening.rt: test_version2 test_blocks_and_words; test_blocks_and_words test_blocks
-{LISTS}/v2/upgrading.rt: upgrade test_version1 test_order write_entries copy_bodies; test_order for unpack_block; copy_bodies for
-{LISTS}/v2/upgrading.rt: write_entries for unpack_block
-{LISTS}/v2/writing.rt: encode text_len write_entries write_bodies; text_len blocks_len; write_entries for width_of; write_body compress_kind
-{LISTS}/v2/writing.rt: write_bodies for read_entry write_body
-{LISTS}/opened.rt: open test_version2; of_text; get value_in_block value_in_tail; mark read_last; unpack_block_as unpack_block
-{LISTS}/opened/tail.rt: value_in_tail read_one; read_tail read_words
-{LISTS}/opened/copying.rt: append_to copy_values
-{LISTS}/chain.rt: pack_all pack_measured; pack_measured for num_bits_kind compress_kind; unpack_all for decompress_kind
-{C}/block.rt: compress width_counted pack_counted; decompress unpack_counted; num_bits width_counted; pack width_counted pack_counted
-{C}/chain.rt: pack_all pack_all packed_len pack_measured; unpack_all unpack_all
-{PACKERS}/bit_packer.rt: {"; ".join(f"{name} {call}" for name, call in NINE.items())}
-"""
-for lanes in (1, 4, 8):
-    CALLS += f"{PACKERS}/bitpacker{lanes}x.rt: {'; '.join(f'{name} {call}' for name, call in BY_KIND.items())}\n"
-# What code has once, by file: the packers of the program; a walk that reads no entry once nothing is wanted; how many widths are cached, and
-# that they are used.
-SHAPES = {
-    "crates/bitpack/src/line/names.rt": ['"4s" => Some(PackerName::FourScalar)', '"8s" => Some(PackerName::EightScalar)'],
-    "crates/bitpack/src/answer.rt": ["PackerName::FourScalar =>", "PackerName::EightScalar =>"]
-    + [f"{name}Scalar => reply_by(alloc, &BitPacker{lanes}x::scalar(), &line.command)," for name, lanes in (("Four", 4), ("Eight", 8))],
-    f"{LISTS}/opened/intersection.rt": ["for number in 0..one.count / P::BLOCK_LEN { if walk.want > u32::MAX as u64 { return; }"],
-    f"{COLUMNS}/encoding/measuring.rt": ["if index < widths.len() { widths[index] = width; }"]
-    + ["if index < widths.len() { return (mark_of_block(kind, block), widths[index]); }"],
-    f"{COLUMNS}/encoding.rt": ["const FEW_WIDTHS: usize = 64;", "const MANY_WIDTHS: usize = 8192;"],
-    f"{LISTS}/blocks/measuring.rt": ["const KEPT_WIDTHS: usize = 1024;"],
-}
 
 
 def codes(folder, *without):
@@ -109,18 +78,6 @@ def each(path, text, pattern, why="{fn} names {what}", unless=lambda _: False):
             yield f"{at(path, text, found.start())}: {why.format(fn=fn, what=what)}"
 
 
-def body_of(text, name):
-    """The body of the first function of this name, with its braces, or nothing if it has none."""
-    found = re.search(rf"\bfn {name}\b[^;{{]*(?={{)", text)
-    return text[found.end() : end_of_braces(text, found.end())] if found else ""
-
-
-def calls_in(body, functions):
-    """The loops of a body, and its calls of these functions, in the order of the text."""
-    found = re.findall(r"\b(for|while|loop)\b|\b(\w+)(?:::<[^()]*>)?\(", body)
-    return " ".join(loop or call for loop, call in found if loop or call in functions)
-
-
 def callee(text, index):
     """The last name of the function in whose arguments an index is, or None."""
     depth = 0
@@ -130,6 +87,14 @@ def callee(text, index):
             found = re.search(r"(\w+)(?:::<[^()]*>)?$", text[:before])
             return found and found[1]
     return None
+
+
+def calls_in(text, name, functions):
+    """The loops of the first function of this name, and its calls of these functions, in the order of the text."""
+    found = re.search(rf"\bfn {name}\b[^;{{]*(?={{)", text)
+    body = text[found.end() : end_of_braces(text, found.end())] if found else ""
+    its = re.findall(r"\b(for|while|loop)\b|\b(\w+)(?:::<[^()]*>)?\(", body)
+    return " ".join(loop or call for loop, call in its if loop or call in functions)
 
 
 def proofs_by_hand():
@@ -177,30 +142,16 @@ def steps():
 
 
 def registers():
-    for lanes in [4, 8]:
+    """`new` has vectors and `scalar` arrays, each with its kernels, and so have the packers of the program."""
+    program = code("crates/bitpack/src/answer.rt")
+    for lanes, name in {4: "Four", 8: "Eight"}.items():
         path = f"{PACKERS}/bitpacker{lanes}x.rt"
         found = " ".join(re.findall(r"\bfn (?:new|scalar)\b|(?<=InstructionSet::)\w+|\b\w+_kind::<.*?>", code(path)))
         arms = [f"Lanes {it}_kind::<ByWidth, u32x{lanes}> Scalar {it}_kind::<Rolled, [u32; {lanes}]>" for it in ("pack", "unpack", "width")]
         if found != f"fn scalar Scalar fn new Lanes {' '.join(arms)}":
             yield f"{path}: new and scalar are not those of vectors and arrays: {found}"
-
-
-def kernels():
-    for path, text in codes(PACKERS, MEMORY).items():
-        for name, may in KERNELS.items():
-            yield from each(path, bare(HEADS, text), rf"\b{name}\b", unless=may.get(path.removeprefix(f"{PACKERS}/"), []).__contains__)
-    path = f"{PACKERS}/dispatch/by_width.rt"
-    types = "\n".join(re.findall(r"^type [^;]*;", code(path), re.M))
-    if re.findall(r"\b\d+\b", types) != [str(width) for width in range(32)] or "= From0<From8<From16<From24<Rolled>>>>;" not in types:
-        yield f"{path}: Widths has not each width"
-
-
-def packers():
-    for path, text in codes(C).items():
-        yield from each(path, text, r"\bscalar\b")
-    own = {name for text in codes(LISTS).values() for name in re.findall(r"\bstruct (\w+)", text)} | {"Vec"}
-    for path, text in codes(LISTS).items():
-        yield from each(path, text, rf"\b(?!(?:{'|'.join(own)})::)(\w+>?)\)?(?:::<[^()]*>)?::new\b", "makes a new {what}")
+        if f"PackerName::{name}Scalar => reply_by(alloc, &BitPacker{lanes}x::scalar(), &line.command)," not in program:
+            yield f"crates/bitpack/src/answer.rt: {lanes}s is not the packer scalar of {lanes}x"
 
 
 def makers(path, text):
@@ -233,25 +184,13 @@ def reads():
 
 
 def calls():
-    wanted = [(path, its.split()) for path, _, more in (it.partition(": ") for it in CALLS.split("\n")) for its in more.split("; ") if its]
-    names = {name for _, (_, *its) in wanted for name in its} - {"for"} | NINE.keys()
-    for path, (name, *right) in wanted:
-        found = calls_in(body_of(code(path), name), names)
-        if found != " ".join(right):
-            yield f"{path}: {name} calls {found or 'none'}, and not {' '.join(right)}"
-    # The functions of a packer for C only pass on.
-    for path, text in {it: code(it) for it in paths(f"{C}/bitpacker?x.rt")}.items():
-        for name in re.findall(r"\bfn (\w+)", text):
-            found = re.findall(r"\b(?:block|chain)::\w+", body_of(text, name))
-            if len(found) != 1:
-                yield f"{path}: {name} calls {', '.join(found) or 'none'}, and not one of block.rt or chain.rt"
-
-
-def shapes():
-    for path, wanted in SHAPES.items():
-        yield from (f"{path}: there is no {it}" for it in wanted if " ".join(code(path).split()).count(it) != 1)
+    wanted = [(path, *its.split(" ", 1)) for path, text in CALLS.items() for its in text.split("; ")]
+    names = {name for _, _, right in wanted for name in right.split()} | {*NINE}
+    for path, name, right in wanted:
+        found = calls_in(code(path), name, names)
+        if found != right:
+            yield f"{path}: {name} calls {found or 'none'}, and not {right}"
 
 
 if __name__ == "__main__":
-    parts = [proofs_by_hand, slices, steps, registers, kernels, packers, reads, calls, shapes]
-    sys.exit(results(parts, "sources"))
+    sys.exit(results([proofs_by_hand, slices, steps, registers, reads, calls], "sources"))

@@ -21,7 +21,6 @@ The folders of OF_SCRIPTS have wrong changes of the same form for the scripts of
 
 import dataclasses
 import glob
-import os
 import re
 import sys
 

@@ -9,7 +9,7 @@ the one below, and has its contract without a clause. If all edits of a crate ar
 what that kept. The libraries below are those of out/proved/, or are proved first.
 
 `unproved.py --all` tries all edits. `unproved.py WORD ..` tries the edits alone that are named, that break a claim such as sets/1, or that are in a
-folder of scripts/mutate/edits/, such as a crate; with `--list` it prints their claims, and what they break. The last line is 'N passed, M failed'.
+folder of scripts/mutate/edits/, such as a crate. The last line is 'N passed, M failed'.
 """
 import collections
 import concurrent.futures
@@ -180,10 +180,7 @@ def tried(room, crate, edits, whole):
 
 def copied(room, *paths):
     """Makes a copy of the tracked files, or of those at these paths, which git tracks there too."""
-    for name in run("git", "ls-files", "-z", *paths).stdout.split("\0"):
-        if name and os.path.isfile(f"{ROOT}/{name}"):
-            os.makedirs(os.path.dirname(f"{room}/{name}"), exist_ok=True)
-            shutil.copy2(f"{ROOT}/{name}", f"{room}/{name}")
+    run("sh", "-c", 'git ls-files -z -- "$@" | xargs -0 cp -p --parents --target-directory="$0"', room, *paths)
     run("git", "init", "--quiet", room)
     run("git", "add", "--all", folder=room)
 
@@ -275,12 +272,10 @@ class Rooms:
 
 
 def main():
-    asked = words("--list", "--all")
-    wanted = [it for it in asked if it not in ("--list", "--all")]
+    asked = words("--all")
+    wanted = [it for it in asked if it != "--all"]
     every = claims.edits_of_crates()
     edits = [it for it in every if not wanted or any(word in [it.name, *it.claims] or it.path.startswith(f"{word}/") for word in wanted)]
-    if "--list" in asked:
-        return claims.print_table(edits)
     by_crate = {crate: [it for it in edits if it.crate == crate] for crate in sorted({it.crate for it in edits})}
     sums = {crate: record.sum_of(crate) for crate in by_crate}
     if not wanted and "--all" not in asked:

@@ -1,14 +1,14 @@
 #!/usr/bin/env python3
 """Compiles and runs the C programs over the archive for all levels of the processor and the archive of each level: those of examples/,
-whose output is worked by hand, scripts/test/calls.c and ranking.c, and scripts/test/id_sets.c, set_queries.c and columns.c over the tables of
+whose output is worked by hand, scripts/test/calls.c and ranking.c, and scripts/test/id_sets.c and columns.c over the tables of
 vectors/. They are compiled as C99 with every warning an error and run with little stack, and once more with the address sanitizer if the compiler
-has it. calls.c is also compiled as C++11 and C++17. Those that read no table run over the archive for all levels on a processor of each level that
-qemu gives. The header has no warning of gcc or clang, from C99 to C23 and from C++11 to C++20, for 64 and 32 bits.
+has it. calls.c is also compiled as C++11 and C++17. In qemu all run on aarch64, and those that read no table on an x86-64 of each level. The
+header has no warning of gcc or clang, from C99 to C23 and from C++11 to C++20, for 64 and 32 bits.
 
-Then a program that prints nothing has to fail with a function that returns one more, and the header to be refused with a field that its empty
-struct lacks. The archives are those that scripts/build/archives.py wrote, which is called if they are not
-there. The last line is 'N passed, M failed'; a part that is left out because a tool is missing is named.
+The archives are those that scripts/build/archives.py wrote, which is called if they are not there. On Debian, the packages qemu-user-static and
+gcc-aarch64-linux-gnu have what the other processors need. The last line is 'N passed, M failed'; a part that lacks a tool is left out, and named.
 """
+import functools
 import re
 import resource
 import shutil
@@ -17,16 +17,16 @@ import sys
 import tempfile
 
 sys.path.insert(1, f"{sys.path[0]}/..")
-from common import ROOT, leave_out, report, run, source
+from common import ROOT, leave_out, missing, report, run, source
 import archives
-import choosing
+from files import failed, other
 import levels
 
 STRICT = ["-Wall", "-Wextra", "-Werror", "-pedantic", f"-I{ROOT}/include"]
 C99 = ["cc", "-std=c99", *STRICT]
+CROSS, QEMU = "aarch64-linux-gnu-gcc", "qemu-aarch64-static"
 CALLS = "scripts/test/calls.c"
 ID_SETS = "scripts/test/id_sets.c"
-SET_QUERIES = "scripts/test/set_queries.c"
 COLUMN_TABLES = "scripts/test/columns.c"
 RANKING = "scripts/test/ranking.c"
 STACK = 256 << 10  # bytes; the sanitizer needs more
@@ -69,50 +69,43 @@ PROGRAMS = {
     # and 11 bytes.
     "examples/column.c": "1000 prices in 1281 bytes\nrow 300: 5100\n20 rows: 3 30 57 84 111 138 165 192 219 246 273 300 787 814 841 868 895 922 949 976\n",
     "examples/index.c": INDEX,
-    CALLS: "",
+    # Dogs weigh 200: 200 * 1 / 4, 200 * 2 / 3 and 200 * 1 / 2. Cats weigh 100: 9 has 100 * 3 / 6, and 300 has 100 * 2 / 3.
+    "examples/ranked.c": "document 300: 166\ndocument 11: 133\ndocument 9: 100\n",
+    CALLS: "all calls\n",
     # Each row of the tables that it is given.
     ID_SETS: "360 sets, 2052 refusals, 102 pairs\n",
-    # Twelve trees for each of 102 pairs.
-    SET_QUERIES: "1224 queries\n",
     COLUMN_TABLES: "727 columns, 2605 refusals\n",
-    # Sixty rounds of 1 to 6 words, at least 0 to all of them, in five rooms.
-    RANKING: "8100 queries\n",
+    # Sixty rounds of 1 to 6 words, at least 0 to all of them, in five rooms; and as many among given documents.
+    RANKING: "16200 queries\n",
 }
-# For each program that prints nothing, a function of the header that it calls, and that function with a wrong answer.
-CALLED = {CALLS: "bitpacking_version"}
-ONE_MORE = """#include "bitpacking.h"
-
-{returned}__real_{name}({given});
-{returned}__wrap_{name}({given});
-
-{returned}__wrap_{name}({given})
-{{
-    return __real_{name}({passed}) + 1;
-}}
-"""
 VECTORS = {
     ID_SETS: ["id_sets", "refused_id_sets", "combined_id_sets"],
-    SET_QUERIES: ["combined_id_sets"],
     COLUMN_TABLES: ["columns", "refused_columns"],
 }
 
 
-def works(command, **given):
-    """Whether a command ends with status 0, and what it prints."""
-    done = run(*command, **given)
-    return done.returncode == 0, done.stdout
+def printed(done, wanted):
+    """What is wrong with a program that ended, or None."""
+    return failed(done) or other(done.stdout, wanted)
 
 
+@functools.cache
 def has_sanitizers():
     with tempfile.TemporaryDirectory(prefix="c-") as folder:
-        source, program = f"{folder}/empty.c", f"{folder}/empty"
-        with open(source, "w", encoding="ascii") as file:
-            file.write("int main(void) { return 0; }\n")
-        return works(["cc", *SANITIZED, source, "-o", program])[0] and works([program])[0]
+        built = run("cc", *SANITIZED, "-xc", "-", "-o", f"{folder}/it", input="int main(void) { return 0; }\n")
+        return built.returncode == 0 and run(f"{folder}/it").returncode == 0
 
 
 def with_little_stack():
     resource.setrlimit(resource.RLIMIT_STACK, (STACK, STACK))
+
+
+def compiled_and_run(archive, path, command, *runner, **more):
+    """What is wrong with a program over an archive, or None: it has to print what PROGRAMS says. The command is that of the compiler."""
+    given = {"input": "".join(source(f"vectors/{table}.tsv") for table in VECTORS.get(path, []))}
+    with tempfile.TemporaryDirectory(prefix="c-") as folder:
+        built = run(*command, f"{ROOT}/{path}", "-x", "none", archive, "-o", f"{folder}/program")
+        return failed(built) or printed(run(*runner, f"{folder}/program", **given, **more), PROGRAMS[path])
 
 
 def places():
@@ -125,53 +118,22 @@ def places():
             leave_out(f"the C programs at the level {level}", "which this processor does not have")
 
 
-def given(program):
-    """What a program reads."""
-    if program not in VECTORS:
-        return {}
-    return {"input": "".join(source(f"vectors/{table}.tsv") for table in VECTORS[program])}
-
-
-def compiled_and_run(archive, path, command, **more):
-    """What is wrong with a program over an archive, or None: it has to print what PROGRAMS says. The command is that of the compiler."""
-    with tempfile.TemporaryDirectory(prefix="c-") as folder:
-        program = f"{folder}/program"
-        right, text = works([*command, f"{ROOT}/{path}", "-x", "none", archive, "-o", program])
-        if not right:
-            return text
-        right, text = works([program], **given(path), **more)
-        return None if right and text == PROGRAMS[path] else f"it failed, and printed {text[:2000]}"
-
-
-def miscounted(text):
-    """The text with another last digit."""
-    return re.sub(r"\d(?=\D*$)", lambda it: str((int(it[0]) + 1) % 10), text)
-
-
-def wrong_ones():
-    """A program that prints nothing over a function with a wrong answer: a name, and what is wrong if it does not fail."""
-    with tempfile.TemporaryDirectory(prefix="c-") as folder:
-        for program, name in CALLED.items():
-            choosing.written(f"{folder}/wrong.c", levels.filled(ONE_MORE, name, *choosing.prototypes()[name]))
-            command = [*C99, f"-Wl,--wrap={name}", f"{folder}/wrong.c"]
-            why = compiled_and_run(f"{archives.OUT}/{archives.ALL}", program, command)
-            right = (why or "").startswith("it failed, and printed ") and name in why
-            yield f"{program} with a wrong {name}", None if right else f"it does not fail so: {why}"
-
-
 def on_other_processors():
-    """The programs that read no table over the archive for all levels, on a processor of each level: each as a name and what is wrong, or None."""
-    if not shutil.which(levels.OTHERS):
-        leave_out("the C programs on other processors", f"since there is no {levels.OTHERS} (Debian: qemu-user-static)")
-        return
-    for program in [it for it in PROGRAMS if it not in VECTORS]:
-        with tempfile.TemporaryDirectory(prefix="c-") as folder:
-            right, text = works([*C99, "-static", f"{ROOT}/{program}", f"{archives.OUT}/{archives.ALL}", "-o", f"{folder}/program"])
-            for processor in levels.ONE_OF_EACH if right else []:
-                said = works([levels.OTHERS, "-cpu", processor, f"{folder}/program"], stderr=subprocess.DEVNULL)
-                yield f"{program} on {processor}", None if said == (True, PROGRAMS[program]) else f"it printed {said[1][:2000]}"
-            if not right:
-                yield f"{program} on other processors", text
+    """The programs in qemu: each as a name and what is wrong, or None."""
+    if missing(levels.OTHERS):
+        leave_out("the C programs on other levels of x86-64", f"since there is no {levels.OTHERS}")
+    else:
+        for program in [it for it in PROGRAMS if it not in VECTORS]:
+            for processor in levels.ONE_OF_EACH:
+                command, runner = [*C99, "-static"], [levels.OTHERS, "-cpu", processor]
+                why = compiled_and_run(f"{archives.OUT}/{archives.ALL}", program, command, *runner, stderr=subprocess.DEVNULL)
+                yield f"{program} on {processor}", why
+    if missing(CROSS, QEMU) or archives.are_fast():
+        leave_out("the C programs on aarch64", f"since there is no {CROSS}, no {QEMU} or no proved archive")
+    else:
+        for program in PROGRAMS:
+            command = [CROSS, "-std=c99", "-static", *STRICT]
+            yield f"{program} on aarch64", compiled_and_run(archives.archive(archives.ARM), program, command, QEMU)
 
 
 def uses():
@@ -180,55 +142,42 @@ def uses():
     names = [(name, name.removesuffix("_EMPTY").lower()) for name, _ in macros if name.endswith("_EMPTY")]
     empty = [f"    {struct} {struct[11:]} = {name}, two_{struct[11:]}[2] = {{{name}, {name}}};" for name, struct in names]
     used = [f"    sum += {name}{'(1)' if given else ''} != 0;" for name, given in macros if not name.endswith("_EMPTY")]
-    sizes = [f"    sum += sizeof {struct[11:]} != sizeof two_{struct[11:]};" for _, struct in names]
+    used += [f"    sum += sizeof {struct[11:]} != sizeof two_{struct[11:]};" for _, struct in names]
     return "\n".join(
-        ['#include "bitpacking.h"', "int main(void)", "{", *empty, "    unsigned sum = 0;", *used, *sizes, "    return sum == 0;", "}", ""]
+        ['#include "bitpacking.h"', "int main(void)", "{", *empty, "    unsigned sum = 0;", *used, "    return sum == 0;", "}", ""]
     )
 
 
-def warned(compiler, language, standard, header=f"{ROOT}/include", *more):
-    """What a compiler says of the header, or None."""
-    words = [*WARNINGS, *WARNINGS_OF[language], *more]
-    known = [it for it in words if it != "-Wc++-compat" or compiler == "gcc"]
-    right, said = works([compiler, "-x", language, f"-std={standard}", *known, f"-I{header}", "-"], input=uses())
-    return None if right else said or "it is refused"
-
-
 def headers():
-    """The header with each compiler, language and size of a pointer: each as a name and what is wrong, or None. Then one that warns."""
-    for language, compilers in COMPILERS.items():
-        for compiler in compilers:
-            if not shutil.which(compiler):
-                leave_out(f"the header with {compiler}", "which is not here")
-                continue
-            for bits in ["-m64", "-m32"]:
-                said = [warned(compiler, language, it, f"{ROOT}/include", bits, "-ffreestanding") for it in STANDARDS[language]]
-                yield f"the header with {compiler} {bits}", "\n".join(filter(None, said)) or None
-    with tempfile.TemporaryDirectory(prefix="c-") as folder:
-        choosing.written(
-            f"{folder}/bitpacking.h", source("include/bitpacking.h").replace("SET_EMPTY {NULL, 0, 0, 0, NULL, 0}", "SET_EMPTY {NULL, 0}")
-        )
-        yield "a header that warns", None if "missing" in (warned("cc", "c", "c99", folder) or "") else "it is not refused"
+    """The header with each compiler, language and size of a pointer: each as a name and what is wrong, or None."""
+    for compiler, language in [(compiler, language) for language, compilers in COMPILERS.items() for compiler in compilers]:
+        if not shutil.which(compiler):
+            leave_out(f"the header with {compiler}", "which is not here")
+            continue
+        words = [it for it in [*WARNINGS, *WARNINGS_OF[language]] if it != "-Wc++-compat" or compiler == "gcc"]
+        for bits in ["-m64", "-m32"]:
+            command = [compiler, "-x", language, *words, f"-I{ROOT}/include", bits, "-ffreestanding", "-"]
+            said = [failed(run(*command, f"-std={it}", input=uses())) for it in STANDARDS[language]]
+            yield f"the header with {compiler} {bits}", "\n".join(filter(None, said)) or None
 
 
 def checks():
     """Each check as a name and what is wrong, or None."""
     yield from headers()
-    sanitizers, in_cpp = has_sanitizers(), shutil.which("c++")
-    if not sanitizers:
+    in_cpp = shutil.which("c++")
+    if not has_sanitizers():
         leave_out("the C programs under the address sanitizer", "which cc does not have here")
     if not in_cpp:
         leave_out(f"{CALLS} as C++", "since there is no c++")
     for level, archive in places():
         for program in PROGRAMS:
             yield f"{program} at {level}", compiled_and_run(archive, program, C99, preexec_fn=with_little_stack)
-            if sanitizers:
+            if has_sanitizers():
                 yield f"{program} at {level}, sanitized", compiled_and_run(archive, program, [*C99, *SANITIZED])
         for standard in ["c++11", "c++17"] if in_cpp else []:
             command = ["c++", f"-std={standard}", *STRICT, "-x", "c++"]
             yield f"{CALLS} as {standard} at {level}", compiled_and_run(archive, CALLS, command)
     yield from on_other_processors()
-    yield from wrong_ones()
 
 
 def main():

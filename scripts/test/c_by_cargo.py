@@ -9,16 +9,19 @@ import sys
 import tempfile
 
 sys.path.insert(1, f"{sys.path[0]}/..")
-from common import ROOT, left_out_without, report, run, version
+from common import ROOT, left_out_without, report, run, source, version
 import archives
 import by_cargo
 import c
+from files import failed, other
 import install
 import packaged
 import release
 
 # What an archive needs of C: functions of <string.h>, which compilers call by themselves, and what ends a program.
 NEEDS = {"memcpy", "memmove", "memset", "memcmp", "bcmp", "abort"}
+# The linker leaves out what is not called, by this flag of docs/C.md.
+LEAVES_OUT = "-Wl,--gc-sections"
 # The most bytes of the archive for all levels, of the shared library, and of a program without what it does not call.
 ARCHIVE, SHARED, SMALL = 7_000_000, 6_000_000, 200_000
 
@@ -31,19 +34,13 @@ def said(prefix):
     yield from packaged.by_pkg_config(prefix, "rustc")
 
 
-def archive(path):
-    """What is wrong with the archive, or None. It has one number of data, the level."""
-    if os.path.getsize(path) > ARCHIVE:
-        return f"it has {os.path.getsize(path)} bytes"
-    return "; ".join(archives.faults(path, data=4, needs=NEEDS)) or None
-
-
-def small(prefix, folder):
-    """What is wrong with the size of a program from which the linker leaves out what is not called, or None."""
-    command = [*c.C99, "-O2", "-s", f"{ROOT}/examples/block.c", f"{prefix}/{install.STATIC}", packaged.LEAVES_OUT, "-o", f"{folder}/small"]
-    built = run(*command)
-    size = os.path.getsize(f"{folder}/small") if built.returncode == 0 else None
-    return None if size and size < SMALL else f"it has {size} bytes {built.stdout[-2000:]}"
+def sizes(prefix, folder):
+    """The sizes of both libraries, and of a program without what it does not call: each as a name and what is wrong, or None."""
+    command = [*c.C99, "-O2", "-s", f"{ROOT}/examples/block.c", f"{prefix}/{install.STATIC}", LEAVES_OUT, "-o", f"{folder}/small"]
+    yield "the flag that leaves out", None if LEAVES_OUT in source("docs/C.md") else "docs/C.md does not name it"
+    yield "a small program", failed(run(*command))
+    for path, most in {f"{prefix}/{install.STATIC}": ARCHIVE, f"{prefix}/{install.LINK}": SHARED, f"{folder}/small": SMALL}.items():
+        yield f"the size of {os.path.basename(path)}", None if os.path.getsize(path) < most else f"it has {os.path.getsize(path)} bytes"
 
 
 def programs(prefix):
@@ -61,20 +58,17 @@ def checks():
         said_so = f"installed version {version()}, {install.BY_RUSTC}, under {prefix}: {install.HEADER} "
         yield "install.py --from cargo", None if done.returncode == 0 and done.stdout.startswith(said_so) else done.stdout
         if done.returncode == 0:
-            yield "the archive", archive(f"{prefix}/{install.STATIC}")
+            # The archive has one number of data, the level.
+            yield "the archive", "; ".join(archives.faults(f"{prefix}/{install.STATIC}", data=4, needs=NEEDS)) or None
             yield "the folders that the libraries name", ", ".join(release.named_folders(prefix)) or None
             yield from packaged.shared_library(f"{prefix}/{install.LINK}")
-            size = os.path.getsize(f"{prefix}/{install.LINK}")
-            yield "the size of the shared library", None if size < SHARED else f"it has {size} bytes"
-            yield "the size of a program", small(prefix, folder)
+            yield from sizes(prefix, folder)
             yield from said(prefix)
             yield from packaged.by_cmake(prefix, "rustc")
             yield from programs(prefix)
         for words, status in (["--from", "nowhere"], 2), (["--from", "cargo", "--level", archives.ARM], 1):
             done = packaged.by_script(f"{folder}/other", *words)
-            yield f"install.py {' '.join(words)}", None if done.returncode == status and not os.path.exists(
-                f"{folder}/other"
-            ) else done.stdout
+            yield f"install.py {' '.join(words)}", other((done.returncode, os.path.exists(f"{folder}/other")), (status, False))
 
 
 def main():

@@ -1,5 +1,5 @@
 /* Calls on blocks that scripts/test/c.py runs as C99 and as C++, also under the address sanitizer: bytes worked by hand, each error with nothing
-   written, null pointers. Every width and kind is tested in rust/src/tests.rs. */
+   written, null pointers. Every width and kind is tested in rust/src/tests.rs. Prints what is wrong, and last that it made all calls. */
 #include "bitpacking.h"
 
 #include <stdio.h>
@@ -108,6 +108,7 @@ static void chains(void)
     static const uint8_t right[13] = {0xFF, 0xFF, 0xFF, 0xFF, 0xAA, 0xAA, 0xAA, 0xAA, 0xAA, 0xAA, 0xAA, 0xAA, 9};
     uint32_t values[64], back[64];
     uint8_t bytes[256], widths[2] = {9, 9}, wide[2] = {1, 33};
+    size_t room;
     int i;
 
     for (i = 0; i < 64; i++)
@@ -119,16 +120,12 @@ static void chains(void)
     for (i = 0; i < 256; i++)
         EXPECT(bytes[i], 9);
     EXPECT(widths[0] + widths[1], 18);
-    EXPECT(bitpacking_1x_pack_all_sorted(0, values, 64, widths, 2, bytes, 12), 12); /* room for this chain and no other */
-    EXPECT(widths[0], 1);
-    EXPECT(widths[1], 2);
-    EXPECT(memcmp(bytes, right, sizeof right), 0);
-    EXPECT(bytes[12], 9);
-    memset(bytes, 9, sizeof bytes);
-    EXPECT(bitpacking_1x_pack_all_sorted(0, values, 64, widths, 2, bytes, 256), 12);
-    EXPECT(widths[0], 1);
-    EXPECT(widths[1], 2);
-    EXPECT(memcmp(bytes, right, sizeof right), 0);
+    for (room = 12; room <= 256; room += 244) { /* for this chain and no other, and for any */
+        memset(bytes, 9, sizeof bytes);
+        EXPECT(bitpacking_1x_pack_all_sorted(0, values, 64, widths, 2, bytes, room), 12);
+        EXPECT(widths[0] * 10 + widths[1], 12);
+        EXPECT(memcmp(bytes, right, sizeof right), 0);
+    }
     EXPECT(bitpacking_1x_unpack_all_sorted(0, wide, 2, bytes, 256, back, 64), BITPACKING_BAD_WIDTH);
     EXPECT(bitpacking_1x_unpack_all_sorted(0, widths, 2, bytes, 11, back, 64), BITPACKING_SHORT);
     EXPECT(bitpacking_1x_unpack_all_sorted(0, widths, 2, bytes, 12, back, 63), BITPACKING_BAD_LENGTH);
@@ -178,5 +175,6 @@ int main(void)
     errors();
     chains();
     texts();
+    printf("all calls\n");
     return failed;
 }

@@ -1,15 +1,13 @@
 #!/usr/bin/env python3
-"""Tests that what decides can fail, with made-up results: `report`, by which a script ends; `judged` of scripts/check, and its `--first`;
-`taken`, by which it takes a library that `rt ci` proved; `why_not` of scripts/mutate/unproved.py, over what a check printed; `not_refused`, by which scripts that read the sources try wrong changes; and
-`chosen` of scripts/mutate/record.py, over a copy in which a source and an edit change: all edits of the crates above it are tried then.
-
-The last line is 'N passed, M failed'.
+"""Tests that what decides can fail, with made-up results: `report`, by which a script ends; `judged` of scripts/check; `taken`, by which it takes a
+library that `rt ci` proved; `why_not` of scripts/mutate/unproved.py, over what a check printed; `not_refused`, by which scripts that read the
+sources try wrong changes; and `chosen` of scripts/mutate/record.py, over a copy in which a source and an edit change: all edits of the crates above
+it are tried then. The last line is 'N passed, M failed'.
 """
 import contextlib
 import importlib.machinery
 import importlib.util
 import io
-import os
 import shutil
 import sys
 import tempfile
@@ -18,6 +16,7 @@ from unittest import mock
 sys.path.insert(1, f"{sys.path[0]}/..")
 import common
 import changes
+from files import other, written
 import proving
 import record
 import texts
@@ -62,48 +61,28 @@ def reports():
 
 def parts():
     """Each end of a part of the gate as a name, what it comes to, and what it has to."""
-    judged, left_out = gate().judged, "LEFT OUT: all, since there is no cc\n"
-    yield "a part that passes", judged("it", ["3 passed, 0 failed\n"], 0), (3, 0, [])
-    yield "a part that is left out", judged("it", [left_out, "0 passed, 0 failed\n"], 0), (0, 0, [left_out])
-    failed = ["FAILED: two: it is\n", "2 passed, 1 failed\n"]
-    for status in [0, 1]:
-        yield f"a part that fails with status {status}", judged("it", failed, status), (2, 1, failed[:1])
+    left_out, wrong = "LEFT OUT: all, since there is no cc\n", "FAILED: two: it is\n"
     ends = {
-        "it checked nothing": (["0 passed, 0 failed\n"], 0),
-        "it ended without a last line": (["3 passed\n"], 0),
-        "it ended with status 2": (["3 passed, 0 failed\n"], 2),
+        "passes": (["3 passed, 0 failed\n"], 0, (3, 0, [])),
+        "is left out": ([left_out, "0 passed, 0 failed\n"], 0, (0, 0, [left_out])),
+        "fails": ([wrong, "2 passed, 1 failed\n"], 1, (2, 1, [wrong])),
+        "fails with status 0": ([wrong, "2 passed, 1 failed\n"], 0, (2, 1, [wrong])),
+        "checks nothing": (["0 passed, 0 failed\n"], 0, (0, 1, ["FAILED: it: it checked nothing\n"])),
+        "says no count": (["3 passed\n"], 0, (0, 1, ["FAILED: it: it ended without a last line\n"])),
+        "ends otherwise": (["3 passed, 0 failed\n"], 2, (3, 1, ["FAILED: it: it ended with status 2\n"])),
     }
-    for why, (said, status) in ends.items():
-        passed = 3 if status else 0
-        yield f"a part of which {why}", judged("it", said, status), (passed, 1, [f"FAILED: it: {why}\n"])
-
-
-def stops():
-    """What becomes of a part after one that fails, as a name, what it comes to, and what it has to."""
-    part, left_out = "echo 1 passed, 0 failed", "LEFT OUT: echo 1 passed, 0 failed, since the run was stopped\n"
-    for given, right in {"": (1, 0, []), "--first": (0, 0, [left_out])}.items():
-        check = gate()
-        with mock.patch.object(sys, "argv", ["check", given]), contextlib.redirect_stdout(io.StringIO()):
-            check.run("false", common.ROOT)
-            yield f"a part after one that fails, check {given}", check.run(part, common.ROOT), right
+    for what, (said, status, right) in ends.items():
+        yield f"a part that {what}", gate().judged("it", said, status), right
 
 
 def libraries():
     """Whether a library that `rt ci` left is taken, as a name, what it comes to, and what it has to."""
-    for name, before, stamp, right in [
-        ("a library", "1", False, True),
-        ("a library of other sources", "2", False, False),
-        ("a library of another command", "1", True, False),
-    ]:
-        with tempfile.TemporaryDirectory(prefix="taken-") as top, mock.patch.multiple(
-            proving, ROOT=top, PROVED=f"{top}/proved", sum_of=lambda _: "1"
-        ):
-            os.makedirs(f"{top}/crates/low/out/rlib/low.rlib")
-            os.makedirs(proving.PROVED)
-            if stamp:
-                os.makedirs(f"{top}/crates/low/out/rlib/stamp")
-            proving.taken("low", before)
-            yield name, proving.is_proved("low"), right
+    for name, before, files in ("a library", "1", []), ("one of other sources", "2", []), ("one of another command", "1", ["stamp/it"]):
+        with tempfile.TemporaryDirectory(prefix="taken-") as top:
+            with mock.patch.multiple(proving, ROOT=top, PROVED=f"{top}/proved", sum_of=lambda _: "1"):
+                written(top, {f"crates/low/out/rlib/{it}": "" for it in ["low.rlib/it", *files]} | {"proved/it": ""})
+                proving.taken("low", before)
+                yield name, proving.is_proved("low"), name == "a library"
 
 
 def why(goals, refused=(), status=1):
@@ -180,9 +159,9 @@ def records():
 
 
 def checks():
-    for part in [reports, parts, stops, libraries, edits, faults, records]:
+    for part in [reports, parts, libraries, edits, faults, records]:
         for name, found, right in part():
-            yield name, None if found == right else f"it is {found}, and not {right}"
+            yield name, other(found, right)
 
 
 if __name__ == "__main__":

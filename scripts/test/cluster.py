@@ -1,15 +1,13 @@
 #!/usr/bin/env python3
 """Runs the index of examples/dask/ as its page says: builds and installs the Python package, starts a scheduler and three workers from the
 command line, builds an index and asks it, and compares what the page shows. Then it runs the example's tests, which stop and kill workers and
-damage shards. Last, each of some wrong changes of the example has to fail a test. A script `dask.py` would hide the module of this name.
+damage shards. A script `dask.py` would hide the module of this name.
 
 It takes the first Python, of the one that runs it and /usr/bin/python3, that has what python.py needs, and `distributed`. Without one it is
 left out, and names what is missing: on Debian, `apt-get install` of the packages of PACKAGES brings it. The archives are those that
 scripts/build/archives.py wrote, which is called if they are not there. It ends only processes that it started. The last line is 'N passed,
 M failed'.
 """
-import concurrent.futures
-import copy
 import os
 import re
 import shutil
@@ -22,6 +20,7 @@ import tempfile
 sys.path.insert(1, f"{sys.path[0]}/..")
 from common import ROOT, ended, leave_out, report, source
 import archives
+from files import written
 import python
 
 PART = "the index on many machines"
@@ -31,32 +30,6 @@ EXAMPLE = "examples/dask"
 # The tests over a cluster, and those without one.
 TESTS = ["../examples/dask/test_index.py", "../examples/dask/test_shards.py"]
 PORT, MARK = "8786", "-- the next command --"
-# Wrong changes: a file of the example, lines in it and other lines, and the tests, of which one has to fail.
-WRONG = [
-    ("index.py", 'part += np.uint64(shard["first"])', "pass", "test_answers"),
-    ("index.py", "initial=first", "initial=0", "test_answers"),
-    ("index.py", "for path, it in paths.items()", "for path, it in list(paths.items())[1:]", "test_answers"),
-    (
-        "index.py",
-        "client.gather(list(files.values()))",
-        'client.gather(list(files.values()), errors="skip")',
-        "test_death_without_another_try",
-    ),
-    ("index.py", "generation = uuid.uuid4().hex", 'generation = "0" * 32', "test_a_build_over_an_index"),
-    ("index.py", 'shutil.rmtree(f"{folder}/{generation}", ignore_errors=True)', "pass", "test_a_build_that_fails"),
-    ("index.py", "for it in before if GENERATION.fullmatch(it)", "for it in before", "test_only_generations_are_removed"),
-    ("shards.py", "        os.fsync(file.fileno())\n", "", "test_stored_before_it_is_named"),
-    (
-        "queries.py",
-        'unwanted if token.startswith("-") else wanted',
-        'unwanted if "-" in token else wanted',
-        "test_queries_are_split_as_documents_are",
-    ),
-    ("shards.py", '"not": fimulowen.subtract}', '"not": fimulowen.unite}', "test_answers"),
-    ("shards.py", 'if zlib.crc32(text) != self.rows["crc"][at]:', "if False:", "test_each_bit"),
-    ("shards.py", "if zlib.crc32(memoryview(self.map)[: self.sets]) != crc:", "if False:", "test_damaged_files"),
-    ("shards.py", "if shard.map.size() != len(shard.map):", "if False:", "test_cut_after_it_was_mapped"),
-]
 PATIENCE = 900
 
 
@@ -93,8 +66,7 @@ def printed(folder, commands):
 def of_page(folder, interpreter):
     """Runs what the page shows. Each command, and the Python session, as a name and what is wrong, or None."""
     page = source(f"{EXAMPLE}/README.md").replace(PORT, free_port()).replace("/usr/bin/python3", interpreter)
-    with open(f"{folder}/page.md", "w", encoding="utf-8") as file:
-        file.write(page)
+    written(folder, {"page.md": page})
     shown = sessions(page)
     # The last command ends the cluster.
     shown.insert(-1, ("python3 -m doctest page.md", ""))
@@ -103,23 +75,6 @@ def of_page(folder, interpreter):
         said = found[number] if number < len(found) - 1 else "nothing: an earlier one did not end"
         yield f"{EXAMPLE}/README.md: {command}", None if said == wanted or number == len(shown) - 1 else f"it prints {said[-3000:]}"
     yield "the commands of the page", None if len(shown) > 9 and page.count(">>> ") > 3 else f"there are {len(shown)}"
-
-
-def wrong_change(package, number):
-    """A wrong change as a name, and None if its test fails with it. The results of its test have a folder of their own."""
-    name, before, after, test = WRONG[number]
-    mine = copy.copy(package)
-    mine.folder = f"{package.folder}/wrong{number}"
-    shutil.copytree(f"{package.folder}/{EXAMPLE}", mine.folder, ignore=shutil.ignore_patterns("__pycache__"))
-    text = source(f"{EXAMPLE}/{name}")
-    with open(f"{mine.folder}/{name}", "w", encoding="utf-8") as file:
-        file.write(text.replace(before, after))
-    why = None if text.count(before) == 1 else f"its lines are there {text.count(before)} times"
-    tests = [f"{mine.folder}/{os.path.basename(it)}" for it in TESTS]
-    found = [] if why else list(mine.tested("with a wrong change", "-x", "-k", test, *tests))
-    # A cluster that does not start refuses nothing.
-    refused = any(wrong and test in it and not wrong.startswith("failed on setup") for it, wrong in found)
-    return f"a wrong change of {name}: {after}", why or (None if refused else f"{test} does not fail: {found}")
 
 
 def checks(interpreter):
@@ -131,8 +86,6 @@ def checks(interpreter):
         if not os.path.exists(f"{package.room}/bin/python"):
             return
         yield from package.tested("of the index", *TESTS)
-        with concurrent.futures.ThreadPoolExecutor(2) as pool:
-            yield from pool.map(lambda number: wrong_change(package, number), range(len(WRONG)))
 
 
 def main():

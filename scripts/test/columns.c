@@ -6,21 +6,14 @@
 
 enum { MOST = 1600, ROOM = BITPACKING_COLUMN_ROOM(MOST), BLOCK = BITPACKING_4X_BLOCK_LEN, DRAWN = 24 };
 
+typedef bitpacking_column view;
+typedef bitpacking_column_builder builder;
+#define CALL(name) bitpacking_column_##name
 #include "written.h"
 
 static uint8_t first_bytes[ROOM], other_bytes[ROOM], kind;
-static uint32_t values[MOST + 2], found[MOST + 2], work[MOST + 2], moved[MOST + 2];
-static uint64_t sums[MOST + 2];
-static size_t count, positions[MOST + 2], right[MOST + 2];
-
-/* A number below a bound that is not 0. */
-static uint32_t drawn(uint64_t bound)
-{
-    static uint64_t state = 1;
-
-    state = state * 6364136223846793005u + 1442695040888963407u;
-    return (uint32_t)((state >> 32) * bound >> 32);
-}
+static uint32_t moved[MOST + 2];
+static size_t positions[MOST + 2], right[MOST + 2];
 
 static bitpacking_column opened(uint8_t its_kind, const uint32_t *given, size_t given_len, uint8_t *room)
 {
@@ -47,32 +40,23 @@ static int can_fall(size_t at)
     return kind == BITPACKING_SORTED && at > 0 && values[at - 1] > 0;
 }
 
-/* A value below the one before it is refused in a sorted column, before the room is looked at. */
-static void refuses_order(size_t at)
-{
-    const uint32_t it = values[at];
-
-    if (!can_fall(at))
-        return;
-    values[at] = values[at - 1] - 1;
-    REFUSES(bitpacking_column_pack(BITPACKING_SORTED, values, count, packed, len, where), BITPACKING_NOT_SORTED, at, "a fall");
-    expect(bitpacking_column_size(BITPACKING_SORTED, values, count, &position) == BITPACKING_NOT_SORTED && position == at, "its size");
-    values[at] = it;
-}
-
 static void packs(void)
 {
-    size_t at;
+    const size_t at = count > 0 ? count - 1 : 0;
 
     expect(size <= BITPACKING_COLUMN_ROOM(count), "there is more than the room that is enough");
-    position = 77;
-    expect(bitpacking_column_size(kind, values, count, &position) == (ptrdiff_t)size, "another size");
-    expect(bitpacking_column_size(kind, values, count, NULL) == (ptrdiff_t)size, "another size without a position");
-    expect(bitpacking_column_size(BITPACKING_SORTED + 1, values, count, &position) == BITPACKING_BAD_KIND && position == 77, "no kind");
-    WRITES(bitpacking_column_pack(kind, values, count, packed, len, where), "other bytes are packed");
-    REFUSES(bitpacking_column_pack((uint8_t)(kind + 2), values, count, packed, len, where), BITPACKING_BAD_KIND, 77, "a kind");
-    for (at = 1; at < count; at += 1 + at / 3)
-        refuses_order(at);
+    expect(bitpacking_column_size(kind, values, count, NULL) == (ptrdiff_t)size, "another size");
+    WRITES(bitpacking_column_pack(kind, values, count, packed, len, &position), "other bytes are packed");
+    REFUSES(bitpacking_column_size(BITPACKING_SORTED + 1, values, count, &position), BITPACKING_BAD_KIND, 77, "no kind");
+    REFUSES(bitpacking_column_pack((uint8_t)(kind + 2), values, count, packed, 0, &position), BITPACKING_BAD_KIND, 77, "a kind");
+    if (can_fall(at)) {
+        const uint32_t it = values[at];
+
+        values[at] = values[at - 1] - 1;
+        REFUSES(bitpacking_column_pack(BITPACKING_SORTED, values, count, packed, 0, &position), BITPACKING_NOT_SORTED, at, "a fall");
+        REFUSES(bitpacking_column_size(BITPACKING_SORTED, values, count, &position), BITPACKING_NOT_SORTED, at, "its size");
+        values[at] = it;
+    }
 }
 
 /* The values from a cut on are appended to those before it. */
@@ -80,34 +64,11 @@ static void appends(size_t cut)
 {
     const bitpacking_column first = opened(kind, values, cut, first_bytes);
 
-    WRITES(bitpacking_column_append(&first, values + cut, count - cut, packed, len, where), "other bytes are appended");
+    WRITES(bitpacking_column_append(&first, values + cut, count - cut, packed, len, &position), "other bytes are appended");
     if (can_fall(cut)) {
         const uint32_t falls[2] = {values[cut - 1], values[cut - 1] - 1};
 
-        REFUSES(bitpacking_column_append(&first, falls, 2, packed, len, where), BITPACKING_NOT_SORTED, cut + 1, "a fall is appended");
-    }
-}
-
-/* Bases that a column can't be joined with: values above 2^32 - 1, and a fall. `moved` are the values of the other column. */
-static void refuses_bases(const bitpacking_column *first, const bitpacking_column *other, size_t cut)
-{
-    const size_t left = count - cut;
-    size_t i;
-
-    for (i = 0; i < left && moved[i] == 0; i++)
-        continue;
-    if (i < left) {
-        const uint32_t most = UINT32_MAX - moved[i] + 1;
-
-        for (i = 0; moved[i] <= UINT32_MAX - most; i++)
-            continue;
-        REFUSES(bitpacking_column_join(first, most, other, work, left, packed, len, where), BITPACKING_BAD_BASE, i, "a base is too great");
-    }
-    if (can_fall(cut) && left > 0) {
-        const uint32_t low = values[cut - 1] - 1 < UINT32_MAX - moved[left - 1] ? values[cut - 1] - 1 : 0;
-
-        if (low + moved[0] < values[cut - 1])
-            REFUSES(bitpacking_column_join(first, low, other, work, left, packed, len, where), BITPACKING_NOT_SORTED, cut, "a join falls");
+        REFUSES(bitpacking_column_append(&first, falls, 2, packed, 0, &position), BITPACKING_NOT_SORTED, cut + 1, "a fall is appended");
     }
 }
 
@@ -127,72 +88,24 @@ static void joins(size_t cut, uint8_t other_kind)
     other = opened(other_kind, moved, left, other_bytes);
     if (left > 0)
         refused(bitpacking_column_join(&first, base, &other, work, left - 1, packed, ROOM, NULL), BITPACKING_SHORT, "no work space");
-    WRITES(bitpacking_column_join(&first, base, &other, work, len == ROOM ? MOST : left, packed, len, where), "other bytes are joined");
-    refuses_bases(&first, &other, cut);
+    WRITES(bitpacking_column_join(&first, base, &other, work, len == ROOM ? MOST : left, packed, len, &position), "other bytes are joined");
+    if (left > 0 && moved[left - 1] > 0)
+        refused(bitpacking_column_join(&first, UINT32_MAX, &other, work, left, packed, ROOM, NULL), BITPACKING_BAD_BASE, "a base is too great");
+    if (can_fall(cut) && left > 0 && moved[0] < values[cut - 1])
+        REFUSES(bitpacking_column_join(&first, 0, &other, work, left, packed, 0, &position), BITPACKING_NOT_SORTED, cut, "a join falls");
 }
 
-/* The column is pushed: the first values one by one, and those from a cut on at once. */
-static void builds(size_t cut)
+/* A builder of the kind of the row, with room for it. */
+static void starts(size_t cut)
 {
-    bitpacking_column_builder builder = BITPACKING_COLUMN_BUILDER_EMPTY;
-    size_t i;
+    bitpacking_column_builder it = BITPACKING_COLUMN_BUILDER_EMPTY;
+    const uint32_t fall = can_fall(cut) ? values[cut - 1] - 1 : 0;
 
-    expect(bitpacking_column_builder_start(&builder, kind, work, count) == 0, "no builder");
-    for (i = 0; i < cut; i++)
-        expect(bitpacking_column_builder_push(&builder, values[i]) == (ptrdiff_t)i + 1, "a value is not pushed");
-    if (can_fall(cut)) {
-        const uint32_t falls[2] = {values[cut - 1], values[cut - 1] - 1};
-
-        expect(bitpacking_column_builder_push(&builder, falls[1]) == BITPACKING_NOT_SORTED, "a fall is pushed");
-        expect(bitpacking_column_builder_extend(&builder, falls, 2, &position) == BITPACKING_NOT_SORTED && position == cut + 1, "falls");
-    }
-    position = 77;
-    expect(bitpacking_column_builder_len(&builder) == cut, "another number of pushed values");
-    expect(bitpacking_column_builder_extend(&builder, values + cut, count - cut, &position) == (ptrdiff_t)count, "values are not pushed");
-    expect(bitpacking_column_builder_push(&builder, UINT32_MAX) == BITPACKING_SHORT, "a value is pushed without room");
-    expect(bitpacking_column_builder_len(&builder) == count && position == 77, "a refusal changes a builder");
-    WRITES(bitpacking_column_builder_finish(&builder, packed, len), "a builder writes other bytes");
+    expect(bitpacking_column_builder_start(&it, kind, work, count) == 0, "no builder");
+    builds(&it, cut, can_fall(cut) ? &fall : NULL);
 }
 
 /* ---- reading */
-
-static void gets_each(const bitpacking_column *column)
-{
-    const uint64_t bases[3] = {0, (uint64_t)1 << 40, BITPACKING_MAX_BASE};
-    uint32_t item = 77;
-    uint64_t sum = 77;
-    size_t i;
-
-    for (i = 0; i < count; i++) {
-        const uint64_t base = bases[i % 3];
-
-        expect(bitpacking_column_get(column, i, &item) == 1 && item == values[i], "another value");
-        expect(bitpacking_column_get_wide(column, base, i, &sum) == 1 && sum == base + values[i], "another sum");
-    }
-    item = 77, sum = 77;
-    expect(bitpacking_column_get(column, count, &item) == 0 && bitpacking_column_get(column, SIZE_MAX, &item) == 0, "a value after the last");
-    expect(bitpacking_column_get_wide(column, 5, count, &sum) == 0, "a sum after the last");
-    expect(bitpacking_column_get_wide(column, BITPACKING_MAX_BASE + 1, 0, &sum) == BITPACKING_BAD_BASE, "a base");
-    expect(item == 77 && sum == 77, "what is not there is written");
-}
-
-static void unpacks(const bitpacking_column *column)
-{
-    const uint64_t base = BITPACKING_MAX_BASE - 7;
-    size_t i;
-
-    expect(count == 0 || bitpacking_column_unpack(column, found, count - 1) == BITPACKING_SHORT, "too little room");
-    leaves(bitpacking_column_unpack(column, found, count), values, count, "other values in their own number");
-    leaves(bitpacking_column_unpack(column, found, MOST), values, count, "other values");
-    memset(sums, 0xA5, sizeof sums);
-    expect(count == 0 || bitpacking_column_unpack_wide(column, base, sums, count - 1) == BITPACKING_SHORT, "too little room for sums");
-    expect(bitpacking_column_unpack_wide(column, BITPACKING_MAX_BASE + 1, sums, 0) == BITPACKING_BAD_BASE, "a base of all");
-    expect(all_are(sums, sizeof sums, 0xA5), "sums are written");
-    expect(bitpacking_column_unpack_wide(column, base, sums, count + 1) == (ptrdiff_t)count, "another number of sums");
-    for (i = 0; i < count && sums[i] == base + values[i]; i++)
-        continue;
-    expect(i == count && all_are(&sums[count], sizeof *sums, 0xA5), "other sums");
-}
 
 /* The values from a position on, into this room. */
 static void ranges(const bitpacking_column *column, size_t from, size_t room)
@@ -325,31 +238,25 @@ static void accepts(void)
 static void empty(void)
 {
     bitpacking_column column = BITPACKING_COLUMN_EMPTY;
-    bitpacking_column_builder builder = BITPACKING_COLUMN_BUILDER_EMPTY;
+    bitpacking_column_builder pushed = BITPACKING_COLUMN_BUILDER_EMPTY;
     uint8_t byte = 0xA5;
     uint32_t item = 77, high = 79;
 
     position = 78;
-    expect(bitpacking_column_len(&column) == 0 && bitpacking_column_unpack(&column, NULL, 0) == 0, "a view of zeros has values");
+    expect(bitpacking_column_unpack(&column, NULL, 0) == 0 && bitpacking_column_range(&column, 0, NULL, 0) == 0, "a view of zeros has values");
     expect(bitpacking_column_kind(&column) == BITPACKING_PLAIN && bitpacking_column_get(&column, 0, &item) == 0, "a value of zeros");
     expect(bitpacking_column_seek(&column, 0, &position, &item) == BITPACKING_BAD_KIND, "zeros are searched");
-    expect(bitpacking_column_range(&column, 0, NULL, 0) == 0 && bitpacking_column_range(&column, 0, &item, 1) == 0, "a range of zeros");
     expect(bitpacking_column_gather(&column, NULL, 0, NULL, 0) == 0, "values of zeros at no position");
     expect(bitpacking_column_gather(&column, &position, 1, &item, 1) == BITPACKING_BAD_POSITION, "values of zeros at a position");
-    expect(bitpacking_column_count_between(&column, 0, UINT32_MAX) == 0, "zeros have values within a range");
     expect(bitpacking_column_between(&column, 0, UINT32_MAX, 0, &position, 1) == 0, "zeros have positions within a range");
     expect(bitpacking_column_bounds(&column, 0, &item, &high) == BITPACKING_BAD_BLOCK, "zeros have a block");
     expect(bitpacking_column_append(&column, NULL, 0, &byte, 1, NULL) == 1 && byte == 0x40, "no value is not appended to zeros");
     expect(bitpacking_column_join(&column, 9, &column, NULL, 0, &byte, 1, NULL) == 1 && byte == 0x40, "zeros are not joined");
     expect(bitpacking_column_pack(BITPACKING_PLAIN, NULL, 0, NULL, 0, NULL) == BITPACKING_SHORT, "the empty column needs no byte");
     expect(bitpacking_column_open(NULL, 0, &column) == BITPACKING_TRUNCATED && column.bytes == NULL, "no bytes are a column");
-    expect(bitpacking_column_pack(BITPACKING_SORTED, NULL, 0, &byte, 1, &position) == 1 && byte == 0x60, "another empty sorted column");
-    expect(bitpacking_column_open(&byte, 1, &column) == 0 && bitpacking_column_unpack(&column, NULL, 0) == 0, "an empty column has values");
-    expect(bitpacking_column_seek(&column, 0, &position, &item) == 0, "a value of an empty column is found");
-    expect(bitpacking_column_builder_push(&builder, 1) == BITPACKING_SHORT && bitpacking_column_builder_len(&builder) == 0, "it is pushed");
-    expect(bitpacking_column_builder_extend(&builder, NULL, 0, &position) == 0, "no value is not pushed");
-    expect(bitpacking_column_builder_start(&builder, 2, &item, 1) == BITPACKING_BAD_KIND && builder.values == NULL, "no kind");
-    expect(bitpacking_column_builder_finish(&builder, &byte, 1) == 1 && byte == 0x40, "another empty plain column");
+    expect(bitpacking_column_builder_push(&pushed, 1) == BITPACKING_SHORT, "it is pushed");
+    expect(bitpacking_column_builder_start(&pushed, 2, &item, 1) == BITPACKING_BAD_KIND && pushed.values == NULL, "no kind");
+    expect(bitpacking_column_builder_finish(&pushed, &byte, 1) == 1 && byte == 0x40, "another empty plain column");
     expect(item == 77 && position == 78 && high == 79, "something is written for no value");
 }
 
@@ -375,7 +282,7 @@ int main(void)
             packs();
             accepts();
             for (cut = 0; cut <= count; cut += 1 + count / 5) {
-                builds(cut);
+                starts(cut);
                 appends(cut);
                 joins(cut, kind);
                 joins(cut, BITPACKING_PLAIN);

@@ -13,6 +13,7 @@ import tempfile
 
 sys.path.insert(1, f"{sys.path[0]}/..")
 from common import ROOT, report
+from files import other
 
 LINE = b"size 4x 13\n"
 ANSWER = b"208\n"
@@ -48,9 +49,9 @@ def runs():
 
 def checks():
     built = subprocess.run([f"{ROOT}/bitpack"], input=LINE, stdout=subprocess.PIPE)
-    yield "the script bitpack", None if built.stdout == ANSWER else f"it printed {built.stdout}"
+    yield "the script bitpack", other(built.stdout, ANSWER)
     for name, found, right in runs():
-        yield name, None if found == right else f"it ended with {str(found)[:200]}, and not {right}"
+        yield name, other(found, right)
 
 
 if __name__ == "__main__":

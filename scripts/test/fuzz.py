@@ -9,12 +9,13 @@ It installs nothing, and is left out for want of one. `--seconds` and a number i
 """
 import os
 import re
-import subprocess
 import sys
 import tempfile
 
 sys.path.insert(1, f"{sys.path[0]}/..")
-from common import ROOT, ended, leave_out, missing, report, run, source, words
+from common import ROOT, ended, leave_out, missing, report, run, words
+from files import bytes_of, failed, written
+from rows import octets, table
 
 OUT = f"{ROOT}/target/fuzz"
 TARGET = "x86_64-unknown-linux-gnu"
@@ -38,25 +39,16 @@ def build(folder, fuzzer, sanitizer):
     """Builds the program. Returns what is wrong, or None."""
     env = dict(os.environ, CARGO_TARGET_DIR=OUT, RUSTFLAGS=" ".join(FLAGS))
     command = ["cargo", "+nightly", "build", "--release", "--offline", "--locked", "--manifest-path", f"{ROOT}/rust/fuzz/Cargo.toml"]
-    built = run(*command, "--target", TARGET, env=env)
-    if built.returncode != 0:
-        return built.stdout[-4000:]
+    built = failed(run(*command, "--target", TARGET, env=env))
     library = f"{OUT}/{TARGET}/release/libfuzz.a"
     parts = ["-Wl,--whole-archive", fuzzer, sanitizer, "-Wl,--no-whole-archive", library, "-lstdc++", "-lm", "-ldl", "-lpthread", "-lrt"]
-    linked = run("clang++", "-o", f"{folder}/fuzz", *parts)
-    return None if linked.returncode == 0 else linked.stdout[-4000:]
-
-
-def unpacked(text):
-    """The bytes of a field of vectors/: `{00*16}` is a byte 16 times."""
-    return bytes.fromhex(re.sub(r"\{(..)\*(\d+)\}", lambda run: run[1] * int(run[2]), text.strip("-")))
+    return built or failed(run("clang++", "-o", f"{folder}/fuzz", *parts))
 
 
 def seeds():
     """The bytes of vectors/, and each two that are of neighbours, with the length of the first: rust/fuzz/lib.rs cuts them."""
     for name, step in SEEDS.items():
-        head, *rows = [it.split("\t") for it in source(f"vectors/{name}.tsv").splitlines()]
-        found = [unpacked(it[head.index("bytes")]) for it in rows[::step]]
+        found = [octets(row["bytes"]) for row in table(f"{name}.tsv")[::step]]
         short = [it for it in found if 0 < len(it) < MOST // 2]
         yield from short
         yield from (one + other + len(one).to_bytes(2, "little") for one, other in zip(short, short[1:]))
@@ -71,17 +63,12 @@ def checks(seconds, fuzzer, sanitizer):
         every = list(seeds())
         # All seeds once, however long that takes; and others made of some of them, for as long as was asked.
         for name, some, time in [("all", every, "-runs=0"), ("some", every[::10], f"-max_total_time={seconds}")]:
-            os.mkdir(f"{folder}/{name}")
-            for number, seed in enumerate(some):
-                with open(f"{folder}/{name}/{number}", "wb") as file:
-                    file.write(seed)
+            written(f"{folder}/{name}", {str(number): seed for number, seed in enumerate(some)})
             limits = [time, f"-max_len={MOST}", "-timeout=60", "-rss_limit_mb=4096", f"-artifact_prefix={folder}/found-"]
-            done = run(f"{folder}/fuzz", *limits, f"{folder}/{name}", stderr=subprocess.STDOUT)
-            counts = re.findall(r"^(?:Done |#)(\d+)\b", done.stdout, re.M)
-            count = max(map(int, counts), default=0)
-            bad = [open(f"{folder}/{it}", "rb").read().hex() for it in os.listdir(folder) if it.startswith("found-")]
-            yield f"{name} seeds", f"{done.stdout[-4000:]}\nof the bytes {' '.join(bad)}" if done.returncode != 0 or bad else None
-            print(f"{count} runs from {len(some)} seeds")
+            done = run(f"{folder}/fuzz", *limits, f"{folder}/{name}")
+            count = max(map(int, re.findall(r"^(?:Done |#)(\d+)\b", done.stdout, re.M)), default=0)
+            bad = [bytes_of(f"{folder}/{it}").hex() for it in os.listdir(folder) if it.startswith("found-")]
+            yield f"{name} seeds", failed(done) or (f"of the bytes {' '.join(bad)}" if bad else None)
             yield f"{name} seeds are run", None if count >= len(some) > 100 else f"{count} runs from {len(some)} seeds"
 
 

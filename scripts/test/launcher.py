@@ -13,8 +13,8 @@ import sys
 import tempfile
 
 sys.path.insert(1, f"{sys.path[0]}/..")
-from common import ROOT, report, source, version
-import choosing
+from common import ROOT, report, run, source, version
+from files import bytes_of, other, written
 import proving
 
 SCRIPTS = ["scripts/build/program.py", "scripts/build/proving.py", "scripts/common.py"]
@@ -50,122 +50,99 @@ REFUSED += "batches=trusted crate-checked=trusted a-later-word=1".split()
 TAKEN = "axioms=1 target=t cpu=c native=nat logic-built=trusted libraries-built=trusted statements=trusted incremental=trusted"
 
 
-def line_of(crate):
-    return f"bitpack: proved {crate}, functions: 7\n"
-
-
 class Copy:
     """A copy of the repository's head, and a folder with the test's toolchain."""
 
     def __init__(self, top):
-        self.top, self.calls, self.kit = f"{top}/copy", f"{top}/calls", f"{top}/kit"
-        for folder in [*(f"crates/{crate}" for crate in BELOW), "crates/bitpack_main/src", "docs", "scripts/build"]:
-            os.makedirs(f"{self.top}/{folder}")
-        self.old = "crates/bitpack_main/src/main.rt"
-        for name in ["bitpack", "CHANGELOG.md", "crates.txt", "docs/PROOFS.md", self.old, *SCRIPTS]:
-            shutil.copy(f"{ROOT}/{name}", f"{self.top}/{name}")
-        os.makedirs(f"{self.kit}/bin")
-        for name, text in {"rt": RT, "rattle": RATTLE, "rattle-link": LINK}.items():
-            choosing.written(f"{self.kit}/bin/{name}", text)
+        self.top, self.calls, self.kit, self.old = f"{top}/copy", f"{top}/calls", f"{top}/kit", "crates/bitpack_main/src/main.rt"
+        for name in ["bitpack", "CHANGELOG.md", "crates.txt", "docs/PROOFS.md", self.old, *SCRIPTS, *(f"crates/{it}/it" for it in BELOW)]:
+            os.makedirs(os.path.dirname(f"{self.top}/{name}"), exist_ok=True)
+            if os.path.exists(f"{ROOT}/{name}"):
+                shutil.copy(f"{ROOT}/{name}", f"{self.top}/{name}")
+        written(f"{self.kit}/bin", {"rt": RT, "rattle": RATTLE, "rattle-link": LINK})
+        for name in os.listdir(f"{self.kit}/bin"):
             os.chmod(f"{self.kit}/bin/{name}", 0o755)
 
-    def run(self, *words, stdin="size\n", stderr=subprocess.PIPE, rt=True, **more):
+    def run(self, *words, rt=True, stderr=subprocess.PIPE, stdin=None, **more):
         """The status, standard output and standard error of a call from another folder."""
-        given = {"stdin": stdin} if isinstance(stdin, int) else {"input": stdin}
-        environment = {"PATH": f"{self.kit}/bin:/usr/bin:/bin" if rt else "/usr/bin:/bin", "KIT": self.kit, "CALLS": self.calls, **more}
-        ran = subprocess.run(
-            [f"{self.top}/bitpack", *words],
-            cwd="/",
-            env=environment,
-            stdout=subprocess.PIPE,
-            stderr=stderr,
-            text=True,
-            check=False,
-            **given,
-        )
+        env = {"PATH": f"{self.kit}/bin:/usr/bin:/bin" if rt else "/usr/bin:/bin", "KIT": self.kit, "CALLS": self.calls, **more}
+        given = {"input": "size\n"} if stdin is None else {"input": None, "stdin": stdin}
+        ran = run(f"{self.top}/bitpack", *words, folder="/", env=env, stderr=stderr, **given)
         return ran.returncode, ran.stdout, ran.stderr
 
-    def build_anew(self):
-        """Has the next call build all."""
+    def anew(self, **more):
+        """What a call says that builds all."""
         shutil.rmtree(f"{self.top}/out", ignore_errors=True)
         shutil.rmtree(f"{self.top}/crates/bitpack_main/out", ignore_errors=True)
+        return self.run(**more)
 
     def called(self):
         """The calls of rattle since this was last asked, each as a crate and a command."""
-        found = source(os.path.relpath(self.calls, ROOT)).splitlines() if os.path.exists(self.calls) else []
-        choosing.written(self.calls, "")
+        found = bytes_of(self.calls).decode().splitlines() if os.path.exists(self.calls) else []
+        written(os.path.dirname(self.calls), {"calls": ""})
         return found
 
 
 def builds(copy):
-    """When it builds, and what it prints then, each as a name and whether it holds."""
+    """When it builds, and what it prints then, each as a name, what was found and what is right."""
     status, out, error = copy.run("--help")
-    yield "--help names the page of the lines", status == 0 and f"{copy.top}/docs/LINES.md" in out and error == ""
-    yield "--version is that of CHANGELOG.md and of rt", copy.run("--version") == (0, f"bitpack {version()}\nkit of the test\n", "")
-    yield "--version without rt has the kit of PROOFS.md", copy.run("--version", rt=False)[1].split("\n")[1].startswith("rattle-kit-")
-    yield "neither builds", not copy.called()
+    yield "--help names the page of the lines", (status, f"{copy.top}/docs/LINES.md" in out, error), (0, True, "")
+    yield "--version is that of CHANGELOG.md and of rt", copy.run("--version"), (0, f"bitpack {version()}\nkit of the test\n", "")
+    kit = copy.run("--version", rt=False)[1].split("\n")[1]
+    yield "--version without rt has the kit of PROOFS.md", kit[:11], "rattle-kit-"
     status, out, error = copy.run(rt=False)
-    yield "without rt it says so", (status, out, error.count("\n")) == (2, "", 1) and "rt" in error
+    yield "without rt it says so", (status, out, error.count("\n"), "rt" in error), (2, "", 1, True)
+    yield "these build nothing", copy.called(), []
     status, out, error = copy.run(FAILS=BELOW[0])
-    yield "a library that fails ends the build", (status, out, copy.called()) == (3, "", [f"{BELOW[0]} build"])
-    yield "the end of the log is shown, with what is not proved", "a goal is open" in error
+    yield "a library that fails ends the build", (status, out, copy.called()), (3, "", [f"{BELOW[0]} build"])
+    yield "the end of the log is shown, with what is not proved", "a goal is open" in error, True
     status, out, error = copy.run(FAILS="bitpack_main")
-    right = [f"{crate} build" for crate in [*BELOW, "bitpack_main"]]
-    yield "it proves the libraries before the program, lowest first, and runs none that fails", (status, out, copy.called()) == (
-        3,
-        "",
-        right,
-    )
-    yield "it says that it builds, and how long", re.match(r".*building.* minutes on four cores", error)
-    yield "and has a line for each crate", error.partition("\n")[2].startswith("".join(map(line_of, [*BELOW, "bitpack_main"])))
-    built = 0, "program:--other words\nsize\n"
-    yield "the next call proves what was not, and passes words on", copy.run("--other", "words")[:2] == built
-    yield "a library is proved once", copy.called() == ["bitpack_main build"]
-    yield "a call after it builds nothing, and needs no rt", copy.run("--other", "words", rt=False) == (*built, "") and not copy.called()
+    in_order = [f"{crate} build" for crate in [*BELOW, "bitpack_main"]]
+    yield "libraries are proved before the program, lowest first, and none that fails runs", (status, out, copy.called()), (3, "", in_order)
+    lines = [f"bitpack: proved {crate}, functions: 7" for crate in [*BELOW, "bitpack_main"]]
+    yield "it says how long it builds", re.match(r".*building.* minutes on four cores", error) is not None, True
+    yield "and has a line for each crate", error.split("\n")[1 : len(lines) + 1], lines
+    built = 0, "program:--other words\nsize\n", ""
+    yield "the next call proves what was not, and passes words on", copy.run("--other", "words")[:2], built[:2]
+    yield "a library is proved once", copy.called(), ["bitpack_main build"]
+    yield "a call after it needs no rt", copy.run("--other", "words", rt=False), built
     os.utime(f"{copy.top}/{copy.old}", (2**33, 2**33))
-    yield "a source that is newer, with the same text, proves nothing", copy.run("--other", "words")[:2] == built and not copy.called()
-    choosing.written(f"{copy.top}/{copy.old}", source(copy.old) + "// More.\n")
-    yield "one with another text does", copy.run("--other", "words")[:2] == built and copy.called() == ["bitpack_main build"]
-    yield "but once", copy.run("--other", "words") == (*built, "") and not copy.called()
+    yield "a source that is newer, with the same text", copy.run("--other", "words")[:2], built[:2]
+    yield "proves nothing", copy.called(), []
+    written(copy.top, {copy.old: source(copy.old) + "// More.\n"})
+    yield "one with another text", [copy.run("--other", "words")[:2] for _ in range(2)], [built[:2]] * 2
+    yield "is proved once", copy.called(), ["bitpack_main build"]
 
 
 def verdicts(copy):
     """Which verdicts end the build, though the status of the check is 0."""
     for number, word in enumerate(REFUSED):
-        copy.build_anew()
         crate = [BELOW[0], "bitpack_main"][number % 2]
-        status, out, error = copy.run(OF=crate, VERDICT=f"logic=proved functions=7 {word} sum=1")
-        told = f"{crate}: the verdict has what no crate of this repository may have: {word}\n"
-        yield f"{word} in the verdict on {crate} ends the build", (status, out) == (3, "") and told in error
+        status, out, error = copy.anew(OF=crate, VERDICT=f"logic=proved functions=7 {word} sum=1")
+        told = f"{crate}: the verdict has what no crate of this repository may have: {word}\n" in error
+        yield f"{word} in the verdict on {crate} ends the build", (status, out, told), (3, "", True)
     for line in ["", "logic=open functions=7 sum=1"]:
-        copy.build_anew()
-        yield f"the verdict '{line}' ends the build", copy.run(OF=BELOW[0], VERDICT=line)[:2] == (3, "")
-    copy.build_anew()
-    done = copy.run(OF="bitpack_main", VERDICT=f"logic=proved functions=7 {TAKEN}")
-    yield "words that say what was proved do not", done[:2] == (0, "program:\nsize\n")
+        yield f"the verdict '{line}' ends the build", copy.anew(OF=BELOW[0], VERDICT=line)[:2], (3, "")
+    said = copy.anew(OF="bitpack_main", VERDICT=f"logic=proved functions=7 {TAKEN}")[:2]
+    yield "words that say what was proved do not", said, (0, "program:\nsize\n")
 
 
 def terminal(copy):
-    """What it says if its input is a terminal, and if its standard error is one."""
-    main, other = pty.openpty()
+    """What it says if its input is a terminal."""
+    main, theirs = pty.openpty()
     os.write(main, b"\x04")
-    status, out, error = copy.run(stdin=other)
-    yield "on a terminal it says that it reads lines", (status, out, error.count("\n")) == (0, "program:\n", 1) and "docs/LINES.md" in error
-    copy.build_anew()
-    copy.run(stdin=subprocess.DEVNULL, stderr=other, FAILS=BELOW[0])
-    said = os.read(main, 1 << 16).decode()
+    status, out, error = copy.run(stdin=theirs)
+    said = status, out, error.count("\n"), "docs/LINES.md" in error
+    yield "on a terminal it says that it reads lines", said, (0, "program:\n", 1, True)
     os.close(main)
-    os.close(other)
-    shown = f"\r\033[Kbitpack: proving {BELOW[0]}, crate 1 of {len(BELOW) + 1}\r\033[K"
-    yield "on a terminal it shows the crate that is being proved", shown in said
-    yield "and the lines after that are whole", f"\r\033[K{line_of(BELOW[0]).strip()}\r\n" in said and "\r\033[Kbitpack: the build failed" in said
+    os.close(theirs)
 
 
 def checks():
     with tempfile.TemporaryDirectory(prefix="launcher-") as top:
         copy = Copy(top)
         for part in [builds, verdicts, terminal]:
-            yield from ((name, None if holds else "it does not") for name, holds in part(copy))
+            yield from ((name, other(found, right)) for name, found, right in part(copy))
 
 
 if __name__ == "__main__":

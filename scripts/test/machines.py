@@ -33,7 +33,7 @@ from typing import NamedTuple
 sys.path.insert(1, f"{sys.path[0]}/..")
 from common import ROOT, leave_out, left_out_without, missing, report, run, words
 import choosing
-import fast
+import by_cargo
 
 OUT = f"{ROOT}/out/machines"
 PACKAGES = "rustc-web cargo-web libstd-rust-web-dev rust-web-src"
@@ -151,7 +151,7 @@ def library(machine):
     crates = "core,alloc,std,panic_abort,test"
     done = from_source("build", crates, target, build, f"{build}/target", *more, CARGO_PROFILE_RELEASE_OPT_LEVEL="1")
     if done.returncode != 0:
-        raise fast.Failed(done.stdout[-3000:])
+        raise by_cargo.Failed(done.stdout[-3000:])
     libraries = f"{folder}/lib/rustlib/{target}/lib"
     os.makedirs(f"{libraries}/self-contained", exist_ok=True)
     for path in glob.glob(f"{build}/target/{target}/release/deps/*.rlib"):
@@ -190,7 +190,7 @@ def built(machine, folder, to, *more, **profile):
     env |= {"CARGO_TARGET_DIR": to, f"CARGO_TARGET_{named}_LINKER": machine.linker}
     env |= {"RUSTFLAGS": " ".join(["-Dwarnings", *rust.flags, *machine.flags])}
     words = ["--quiet", "--release", "--offline", "--locked", "--target", machine.target]
-    fast.called(rust.cargo, "build", *words, *more, folder=folder, env=env)
+    by_cargo.called(rust.cargo, "build", *words, *more, folder=folder, env=env)
     return f"{to}/{machine.target}/release"
 
 
@@ -207,15 +207,15 @@ def tests_of_simd(name):
     source, program = f"{OUT}/{name}/simd.rs", f"{OUT}/{name}/simd"
     choosing.written(source, f'#![no_std]\nextern crate alloc;\n#[path = "{ROOT}/rust/src"]\nmod of_crate {{\n    mod simd;\n}}\n')
     flags = [*rust.flags, *machine.flags, f"-Clinker={machine.linker}", "--target", machine.target, "-Aunused"]
-    fast.called(rust.rustc, "--edition=2024", "--test", *flags, source, "-o", program, env=rust.env)
+    by_cargo.called(rust.rustc, "--edition=2024", "--test", *flags, source, "-o", program, env=rust.env)
     return [*machine.runner, program]
 
 
 def passed(command, pattern):
     """How many tests a program passed, which is in its output as the pattern says if none failed."""
-    found = re.search(pattern, text := fast.called(*command), re.M)
+    found = re.search(pattern, text := by_cargo.called(*command), re.M)
     if not found:
-        raise fast.Failed(text[-3000:])
+        raise by_cargo.Failed(text[-3000:])
     return int(found[1])
 
 
@@ -227,7 +227,7 @@ def on_machine(name):
         tests = passed(tests_of_simd(name), r"^test result: ok\. ([1-9]\d*) passed; 0 failed")
         command = [*example(name, "vectors", OPT_LEVEL=MACHINES[name].level, **QUICK), f"{ROOT}/vectors"]
         rows = passed(command, r"^([1-9]\d*) passed, 0 failed$")
-    except fast.Failed as why:
+    except by_cargo.Failed as why:
         return str(why)
     print(f"{name}: {tests} tests of simd and {rows} checks of vectors passed, {time.time() - start:.0f} s", flush=True)
     return tests, rows

@@ -4,8 +4,9 @@ import os
 import random
 import re
 
-import pg_server
 from common import run
+from files import bytes_of, other, written
+import pg_server
 
 # Sets on disk, and in how many of them a bit is flipped. Their numbers are far apart, so that most flips can be seen.
 STORED, FLIPPED = 120, 60
@@ -51,41 +52,32 @@ def dumped(extension, server):
     before = server.rows(digest + "kept")
     dump = run(extension.programs.path("pg_dump"), "-t", "kept", "-e", "idset", env=server.known).stdout
     server.rows("CREATE DATABASE restored")
-    said, status = server.psql(dump, "restored")
-    after = server.psql(digest + "kept", "restored")[0]
-    yield "dumped and restored", None if status == 0 and before == after else f"{said[-500:]} {after}"
-    place = f"{extension.programs.folder}{pg_server.config('sharedir')}/extension/idset--1.0--next.sql"
-    with open(place, "w", encoding="ascii") as file:
-        file.write("CREATE FUNCTION idset_next() RETURNS int4 LANGUAGE sql AS 'SELECT 2';\n")
-    os.chmod(place, 0o644)
+    restored = [server.psql(dump, "restored")[1], server.psql(digest + "kept", "restored")[0]]
+    yield "dumped and restored", other(restored, [0, before])
+    place = f"{extension.programs.folder}{pg_server.config('sharedir')}/extension"
+    written(place, {"idset--1.0--next.sql": "CREATE FUNCTION idset_next() RETURNS int4 LANGUAGE sql AS 'SELECT 2';\n"})
     updated = "ALTER EXTENSION idset UPDATE TO 'next'; SELECT idset_next(), extversion FROM pg_extension WHERE extname = 'idset'"
-    said = server.psql(f"{updated}; {digest}kept", "restored")[0]
-    yield "updated to a next version", None if said == f"2|next\n{before}" else said
+    yield "updated to a next version", other(server.psql(f"{updated}; {digest}kept", "restored")[0], f"2|next\n{before}")
     path = f"{server.socket}/copy"
     server.rows(f"COPY kept TO '{path}' (FORMAT binary); CREATE TABLE copied (LIKE kept); COPY copied FROM '{path}' (FORMAT binary)")
-    yield "copied in binary", None if server.rows(digest + "copied") == before else "other values"
-    with open(path, "rb") as file:
-        data = bytearray(file.read())
+    yield "copied in binary", other(server.rows(digest + "copied"), before)
+    data = bytearray(bytes_of(path))
     data[data.index(bytes.fromhex(server.rows("SELECT encode(ids::bytea, 'hex') FROM kept WHERE n = 60")))] = 7
-    with open(path, "wb") as file:
-        file.write(data)
+    written(server.socket, {"copy": data})
     said, status = server.psql(f"COPY copied FROM '{path}' (FORMAT binary)")
     yield "a damaged binary copy", None if status != 0 and "invalid idset: " in said else said
 
 
-def flipped(server, rows, bits):
-    """Flips a bit in the bytes of some sets, in the file of a server that does not run."""
-    path = f"{server.data}/{rows['path']}"
-    with open(path, "rb") as file:
-        data, done = bytearray(file.read()), 0
-    for text in rows["sets"][:FLIPPED]:
+def flipped(path, sets, bits):
+    """Flips a bit in the bytes of some sets, in the file of a server that does not run. Returns in how many."""
+    data, done = bytearray(bytes_of(path)), 0
+    for text in sets[:FLIPPED]:
         at = bits.randrange(20, len(text) - 20)
         place = data.find(text[at - 12 : at + 12])
         if place >= 0:
             data[place + 12] ^= 1 << bits.randrange(8)
             done += 1
-    with open(path, "wb") as file:
-        file.write(data)
+    written(os.path.dirname(path), {os.path.basename(path): data})
     return done
 
 
@@ -102,7 +94,7 @@ def on_disk(extension, number, checksums):
     path = server.rows("SELECT pg_relation_filepath(reltoastrelid) FROM pg_class WHERE relname = 'stored'")
     sets = [bytes.fromhex(it) for it in server.rows("SELECT encode(ids::bytea, 'hex') FROM stored ORDER BY n").split("\n")]
     server.stop()
-    count = flipped(server, {"path": path, "sets": sets}, random.Random(number))
+    count = flipped(f"{server.data}/{path}", sets, random.Random(number))
     server.start()
     after = server.rows("SET client_min_messages = error; SELECT n, said FROM answers() ORDER BY n").split("\n")
     server.stop()
@@ -130,26 +122,22 @@ def two_servers(extension, first):
     second.rows("CREATE EXTENSION idset; CREATE TABLE postings_2 (word text, first int8, ids idset)")
     first.rows(FOREIGN.format(second.socket, second.port) + PARTITIONS + ROWS)
     counts = [it.rows(f"SELECT count(*) > 10 FROM postings_{number}") for number, it in [(1, first), (2, second)]]
-    yield "rows on two servers", None if counts == ["t", "t"] else f"{counts}"
-    for sign in SIGNS:
-        said = asked(first, sign)
-        yield f"{sign} over two servers", None if said is True else f"{said}"
+    yield "rows on two servers", other(counts, ["t", "t"])
+    yield from ((f"{sign} over two servers", other(asked(first, sign), True)) for sign in SIGNS)
     plan = first.rows("EXPLAIN (VERBOSE, COSTS off) SELECT word FROM postings WHERE ids @> 400000000")
     yield "@> runs on the second server", None if "OPERATOR(public.@>)" in plan.partition("Remote SQL")[2] else plan
     said = first.rows(f"{WISE} EXPLAIN (VERBOSE, COSTS off) {BY_RANGE}")
     there = re.search(r"Remote SQL: .*unite_agg\(\(r\d+\.ids OPERATOR\(public\.&\) r\d+\.ids\)\)", said)
     yield "AND runs on the second server", None if there else said
     said = first.rows(f"{WISE} SELECT first + id FROM ({BY_RANGE}) r, unnest(ids) id ORDER BY 1")
-    yield "AND that ran there", None if said == first.rows(BY_ROWS.format("INTERSECT")) else said[:500]
+    yield "AND that ran there", other(said, first.rows(BY_ROWS.format("INTERSECT")))
     second.stop()
     said, status = first.psql(QUERY.format("&"))
     clear = status != 0 and 'could not connect to server "second"' in said
     yield "the second server is stopped", None if clear else said[:500]
-    alone = first.psql("SELECT count(*) > 10 FROM postings WHERE first < 5000000000")[0]
-    yield "the first server answers alone", None if alone == "t" else alone
+    yield "the first server answers alone", other(first.psql("SELECT count(*) > 10 FROM postings WHERE first < 5000000000")[0], "t")
     second.start()
-    said = asked(first, "&")
-    yield "the second server is started again", None if said is True else f"{said}"
+    yield "the second server is started again", other(asked(first, "&"), True)
     second.stop()
 
 

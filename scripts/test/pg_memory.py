@@ -18,14 +18,11 @@ TABLES = """CREATE TABLE stored AS SELECT n, idset(ARRAY(SELECT i * 20 + n % 20 
 CREATE TABLE two AS SELECT idset(ARRAY(SELECT generate_series(1, 40000, 2))) AS a, idset(ARRAY(SELECT generate_series(2, 40000, 2))) AS b;
 CREATE TABLE mixed AS SELECT ARRAY(SELECT (i::int8 * 2654435761 % 2147483647)::int4 FROM generate_series(1, 5000000) i) AS a;
 CREATE FUNCTION has(ids idset, id int8) RETURNS bool LANGUAGE plpgsql AS 'BEGIN RETURN contains(ids, id); END';"""
+CHANGES = "has(CASE n % 2 WHEN 0 THEN a ELSE b END, n)"
 # Statements, what they print, and the most memory in MB.
 SPACE = {
     "a sort frees its copies": ("SELECT count(*) FROM (SELECT ids FROM stored ORDER BY ids OFFSET 0) q", "2000", 60),
-    "a parameter that changes is kept once": (
-        "SELECT count(*) FROM two, generate_series(1, 20000) n WHERE has(CASE n % 2 WHEN 0 THEN a ELSE b END, n)",
-        "0",
-        30,
-    ),
+    "a parameter that changes is kept once": (f"SELECT count(*) FROM two, generate_series(1, 20000) n WHERE {CHANGES}", "0", 30),
     "an index build frees its copies": ("CREATE INDEX ON stored (n) WHERE ids < '{1,2}'", "", 60),
 }
 
@@ -117,18 +114,11 @@ def can_be_cancelled(server):
     yield "a sort can be cancelled", None if fine else f"{said[:200]}: {used:.2f} of {whole:.2f} s"
 
 
-CHECKS = [space, kept_constant, grows_evenly, results_are_small, can_be_cancelled]
-
-
-def filled(server):
+def checks(server, only=None):
+    """All checks, or those of one function, in a database of their own."""
     server.rows("DROP DATABASE IF EXISTS measured")
     server.rows("CREATE DATABASE measured")
     server.rows("CREATE EXTENSION idset; " + TABLES, "measured")
-
-
-def checks(server, only=None):
-    """All checks, or those of one function, in a database of their own."""
-    filled(server)
-    for check in CHECKS:
+    for check in [space, kept_constant, grows_evenly, results_are_small, can_be_cancelled]:
         if only in (None, check.__name__):
             yield from check(server)

@@ -11,16 +11,14 @@ import time
 
 from common import ROOT, run
 import bundle
+from files import bytes_of, failed, written
 
 PG_CONFIG = os.environ.get("PG_CONFIG") or "/usr/lib/postgresql/15/bin/pg_config"
-# What `lacking` looks for, and the packages of Debian that have it.
+# What `lacking` looks for, by the package of Debian that has it.
 PACKAGES = {
-    "bindir:postgres": "postgresql-15",
-    "bindir:pgbench": "postgresql-15",
-    "bindir:psql": "postgresql-client-15",
-    "pkglibdir:postgres_fdw.so": "postgresql-15",
-    "pgxs:": "postgresql-server-dev-15",
-    "includedir-server:postgres.h": "postgresql-server-dev-15",
+    "postgresql-15": "bindir:postgres bindir:pgbench pkglibdir:postgres_fdw.so",
+    "postgresql-client-15": "bindir:psql",
+    "postgresql-server-dev-15": "pgxs: includedir-server:postgres.h",
 }
 SETTINGS = {"listen_addresses": "", "jit": "off", "max_connections": "120", "shared_buffers": "64MB", "fsync": "off", "autovacuum": "off"}
 PATIENCE = 240
@@ -35,13 +33,12 @@ def lacking():
     """What is missing for a server with extensions, with the packages of Debian that have it."""
     if not os.path.exists(PG_CONFIG):
         return ["PostgreSQL 15 (Debian: apt install postgresql-15 postgresql-server-dev-15)"]
-    found = []
-    for wanted, package in PACKAGES.items():
-        name, file = wanted.split(":")
-        path = f"{config(name)}/{file}".rstrip("/")
-        if not os.path.exists(path):
-            found.append(f"{path} (Debian: apt install {package})")
-    return found
+    paths = {
+        f"{config(name)}/{file}".rstrip("/"): package
+        for package, its in PACKAGES.items()
+        for name, file in (it.split(":") for it in its.split())
+    }
+    return [f"{path} (Debian: apt install {package})" for path, package in paths.items() if not os.path.exists(path)]
 
 
 def account():
@@ -83,35 +80,22 @@ class Programs:
 class Server:
     """One server, with a folder for its data and its socket. `more` are variables of its environment."""
 
-    def __init__(self, programs, folder, number=1, like=None, checksums=True, more=None):
+    def __init__(self, programs, folder, number=1, checksums=True, more=None):
         self.programs, self.data, self.port, self.socket = programs, f"{folder}/data{number}", 5430 + number, folder
         self.log, self.process, self.more = f"{folder}/log{number}", None, more or {}
         self.known = dict(os.environ, PGHOST=folder, PGPORT=str(self.port), PGUSER="postgres", PGDATABASE="postgres", LC_ALL="C")
-        if like:
-            shutil.copytree(like.data, self.data)
-            handed_over(self.data)
-            return
         words = ["-D", self.data, "-U", "postgres", "-A", "trust", "-E", "UTF8", "--locale=C", "-N", *["--data-checksums"] * checksums]
-        done = run(programs.path("initdb"), *words, folder=folder, env=self.known, **account())
-        if done.returncode != 0:
-            raise RuntimeError(f"initdb failed: {done.stdout[-2000:]}")
+        if why := failed(run(programs.path("initdb"), *words, folder=folder, env=self.known, **account())):
+            raise RuntimeError(f"initdb failed: {why}")
 
     def start(self, **settings):
         """Starts the server, and waits until it answers."""
         given = SETTINGS | {"unix_socket_directories": self.socket, "port": self.port} | settings
         words = [word for name, value in given.items() for word in ("-c", f"{name}={value}")]
         with open(self.log, "ab") as log:
+            how = {"cwd": self.socket, "env": os.environ | self.more, "stdin": subprocess.DEVNULL, "stdout": log, "stderr": log}
             command = [self.programs.path("postgres"), "-D", self.data, *words]
-            self.process = subprocess.Popen(
-                command,
-                cwd=self.socket,
-                env=os.environ | self.more,
-                stdin=subprocess.DEVNULL,
-                stdout=log,
-                stderr=log,
-                start_new_session=True,
-                **account(),
-            )
+            self.process = subprocess.Popen(command, start_new_session=True, **how, **account())
         return self.ready()
 
     def ready(self):
@@ -122,8 +106,7 @@ class Server:
             if self.process.poll() is not None:
                 break
             time.sleep(0.1)
-        with open(self.log, encoding="utf-8", errors="replace") as log:
-            raise RuntimeError(f"the server did not start: {log.read()[-2000:]}")
+        raise RuntimeError(f"the server did not start: {bytes_of(self.log).decode(errors='replace')[-2000:]}")
 
     def stop(self):
         """Ends the server, and the queries that run."""
@@ -147,9 +130,6 @@ class Server:
 
 def copied_sources(to):
     """Copies the sources of the extension, as a bundle has them, for a user that is not root."""
-    for path in bundle.paths("x86_64"):
-        if path.startswith("postgres/"):
-            place = f"{to}/{path.removeprefix('postgres/')}"
-            os.makedirs(os.path.dirname(place), exist_ok=True)
-            shutil.copyfile(f"{ROOT}/{path}", place)
+    paths = [it for it in bundle.paths("x86_64") if it.startswith("postgres/")]
+    written(to, {it.removeprefix("postgres/"): bytes_of(f"{ROOT}/{it}") for it in paths})
     handed_over(to)

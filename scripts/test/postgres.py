@@ -7,13 +7,11 @@ starts servers as a user that is not root, which listen on sockets alone, and
 - dumps and restores a table, updates the extension to a made-up next version, and reads binary copies, sound and damaged;
 - flips bits in the files of a stopped server, with data checksums and without;
 - asks two servers, which have the partitions of one table, and stops one of them;
-- measures the memory and the processor's time of some statements;
-- makes wrong changes of the extension, with each of which a file of postgres/sql/ or a measurement has to fail.
+- measures the memory and the processor's time of some statements.
 
 It is left out without PostgreSQL 15 and its header files, and says how to install them. The archive is the one that scripts/build/archives.py
 wrote, which is called if it is not there. The last line is 'N passed, M failed'.
 """
-import fnmatch
 import os
 import re
 import shutil
@@ -24,9 +22,8 @@ sys.path.insert(1, f"{sys.path[0]}/..")
 from common import ended, leave_out, report, run, source
 
 import archives
-import bundle
+from files import bytes_of, other
 import install
-import pg_changes
 import pg_faults
 import pg_memory
 import pg_server
@@ -36,12 +33,8 @@ from pg_server import Programs, Server
 PARTS = "the PostgreSQL extension"
 PAGE = "docs/POSTGRES.md"
 # Catches the error of a cast from bytea.
-SAID = """CREATE FUNCTION said(bytes bytea) RETURNS text LANGUAGE plpgsql AS $$
-BEGIN
-    RETURN bytes::idset::text;
-EXCEPTION WHEN OTHERS THEN
-    RETURN SQLSTATE || ' ' || SQLERRM;
-END $$;"""
+SAID = """CREATE FUNCTION said(bytes bytea) RETURNS text LANGUAGE plpgsql AS
+'BEGIN RETURN bytes::idset::text; EXCEPTION WHEN OTHERS THEN RETURN SQLSTATE || '' '' || SQLERRM; END';"""
 # The most ids of ten digits whose text has at most 1,000,000,000 bytes.
 MOST_IDS = 90_909_090
 # What the address sanitizer is told, and functions in place of those that translate, which wait for ever in a program that it was loaded into.
@@ -88,10 +81,7 @@ class Extension:
         done = self.make("installcheck", *[f"REGRESS={only}"] * bool(only), sources=sources, env=server.known, **pg_server.account())
         found = dict(re.findall(r"^test (\w+) +\.\.\. (\w+)", done.stdout, re.M))
         differences = f"{sources}/regression.diffs"
-        said = done.stdout[-2000:]
-        if os.path.exists(differences):
-            with open(differences, encoding="utf-8") as file:
-                said = file.read()[:3000] or said
+        said = bytes_of(differences).decode()[:3000] if os.path.exists(differences) else done.stdout[-2000:]
         for name in [only] if only else re.search(r"^REGRESS = (.*)", source("postgres/Makefile"), re.M)[1].split():
             yield f"postgres/sql/{name}.sql", None if found.get(name) == "ok" else said
 
@@ -106,11 +96,8 @@ def library(extension):
     yield "the size of idset.so", f"it has {sizes[0]} bytes, and the archive {sizes[1]}" if sizes[0] > sizes[1] else None
 
 
-def packaged(extension):
-    """The extension of a bundle, whose sources are built here, has nothing that was built before. PREFIX may be relative."""
-    built = ["postgres/idset.so", "postgres/idset.bc", "postgres/src/text.o", "postgres/results/types.out"]
-    taken = [it for it in built if any(fnmatch.fnmatch(it, form) for form in bundle.FILES)]
-    yield "what was built is in no bundle", f"{taken}" if taken else None
+def relative(extension):
+    """PREFIX may be relative to the folder of the shell."""
     words = ["-B", "-n", "-C", "postgres", "BITPACKING=prefix", f"PG_CONFIG={pg_server.PG_CONFIG}", "src/text.o"]
     said = run("make", *words, folder=extension.folder, env=dict(os.environ, PWD=extension.folder)).stdout
     yield "a relative PREFIX", None if f"-I{extension.prefix}/include" in said else said[-500:]
@@ -139,11 +126,9 @@ def vectors(server):
         value = f"'\\x{data.hex()}'::bytea::idset"
         asked.append((f"SELECT {value}::int8[] = '{ids}' AND '{ids}'::idset::bytea = '\\x{data.hex()}'", "t"))
     yield from compared("the sets of vectors/", server, "", asked)
-    texts = fault_texts()
-    refused = [
-        (rows.octets(row["bytes"]), f"22P03 invalid idset: {texts[-20 - int(row['number'])]}") for row in rows.table("refused_id_sets.tsv")
-    ]
-    asked = [(f"SELECT said('\\x{data.hex()}')", wanted) for data, wanted in refused]
+    texts, asked = fault_texts(), []
+    for row in rows.table("refused_id_sets.tsv"):
+        asked.append((f"SELECT said('\\x{rows.octets(row['bytes']).hex()}')", f"22P03 invalid idset: {texts[-20 - int(row['number'])]}"))
     yield from compared("the refused bytes of vectors/", server, SAID, asked)
 
 
@@ -169,7 +154,7 @@ def longest(server):
     first = MOST_IDS - 65536 * 1387
     fits, longer = (f"'\\x{long_set(first + it).hex()}'::bytea" for it in (0, 1))
     said = server.rows(f"SELECT cardinality({fits}::idset), max({fits}::idset)")
-    yield "the longest text is taken", None if said == f"{MOST_IDS}|4294967295" else said
+    yield "the longest text is taken", other(said, f"{MOST_IDS}|4294967295")
     wanted = f"the text of the idset would have {11 * (MOST_IDS + 1) + 1} bytes"
     for name, sql in {"from bytes": f"{longer}::idset", "by a call": f"{fits}::idset | 1000000000"}.items():
         said, status = server.psql(f"SELECT cardinality({sql})")
@@ -180,7 +165,7 @@ def owned(server):
     """The owner of a database may add the extension to it, without other rights."""
     server.rows("CREATE ROLE owner LOGIN; CREATE DATABASE owned OWNER owner")
     said = server.psql("SET SESSION AUTHORIZATION owner; CREATE EXTENSION idset; SELECT cardinality('{1,2}'::idset)", "owned")[0]
-    yield "the owner of a database adds the extension", None if said == "2" else said
+    yield "the owner of a database adds the extension", other(said, "2")
 
 
 def examples():
@@ -206,7 +191,7 @@ def page(server):
     for number, (sql, wanted) in enumerate(asked):
         got = parts[number].strip("\n").split("\n") if number < len(parts) else []
         got = [re.sub("^psql:<stdin>:\\d+: ", "", line) for line in got if line]
-        yield f"{PAGE}: {sql}", None if got == wanted else f"it printed {got}"
+        yield f"{PAGE}: {sql}", other(got, wanted)
 
 
 def sanitizer(extension):
@@ -218,13 +203,12 @@ def sanitizer(extension):
 
 def reported(server):
     """What the address sanitizer wrote to the server's log, or None."""
-    with open(server.log, encoding="utf-8", errors="replace") as log:
-        found = re.search(r"AddressSanitizer: .*(\n.*){8}", log.read())
+    found = re.search(r"AddressSanitizer: .*(\n.*){8}", bytes_of(server.log).decode(errors="replace"))
     return found and found[0]
 
 
 def sanitized(extension):
-    """The files of postgres/sql/ over a build with the address sanitizer, and a wrong change that it has to find."""
+    """The files of postgres/sql/ over a build with the address sanitizer."""
     known, sources = sanitizer(extension), f"{extension.folder}/sanitized"
     if not known:
         leave_out("PostgreSQL with the address sanitizer", "since cc has no libasan.so")
@@ -239,17 +223,7 @@ def sanitized(extension):
     for name, why in extension.installcheck(server, sources):
         yield f"{name} with the address sanitizer", why
     yield "what the address sanitizer found", reported(server)
-    with open(f"{sources}/src/query.c", encoding="utf-8") as file:
-        text = file.read()
-    with open(f"{sources}/src/query.c", "w", encoding="utf-8") as file:
-        file.write(text.replace("sizeof(uint32) * (most + 1)", "sizeof(uint32) * (most / 4)"))
-    failed = extension.built(sources, words)
-    list(extension.installcheck(server, sources, "query"))
-    found = reported(server) or ""
     server.stop()
-    yield "too little room for a query, with the address sanitizer", failed or (
-        None if "heap-buffer-overflow" in found else f"found: {found}"
-    )
 
 
 def checks():
@@ -260,7 +234,7 @@ def checks():
         if failed:
             return
         yield from library(extension)
-        yield from packaged(extension)
+        yield from relative(extension)
         first = extension.server()
         try:
             first.start()
@@ -276,7 +250,6 @@ def checks():
             for name, why in extension.installcheck(bare):
                 yield f"{name} without data checksums", why
             yield from pg_memory.checks(bare)
-            yield from pg_changes.checks(extension, bare)
             bare.stop()
             yield from sanitized(extension)
         finally:

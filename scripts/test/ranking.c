@@ -1,9 +1,7 @@
 /* Asks for the best documents of words whose scores are worked by hand, and of words that are drawn, against a scan of all documents. Each error is
    tested, with nothing else written. Prints what is wrong, and last how many queries it asked. */
 #include "bitpacking.h"
-#include <stdio.h>
-#include <stdlib.h>
-#include <string.h>
+#include "tables.h"
 
 enum { DOCUMENTS = 3000, WORDS = 5, ROWS = 6, PARTS = ROWS * BITPACKING_CLASSES, ROUNDS = 60 };
 
@@ -15,24 +13,7 @@ static size_t rows[WORDS], blocks[WORDS + 1];
 static bitpacking_term terms[WORDS + 1];
 static bitpacking_walk walks[WORDS + 1];
 static bitpacking_scored found[DOCUMENTS], right[DOCUMENTS];
-static int failed;
-
-static void expect(int is, const char *what)
-{
-    if (!is) {
-        printf("%s\n", what);
-        failed = 1;
-    }
-}
-
-/* A number below a bound that seems random. */
-static size_t drawn(size_t bound)
-{
-    static uint64_t state = 1;
-
-    state = state * 6364136223846793005u + 1442695040888963407u;
-    return (size_t)(state >> 33) % bound;
-}
+static uint32_t given[DOCUMENTS];
 
 static void opened(const uint32_t *of_ids, const uint32_t *of_counts, size_t len, size_t word, bitpacking_set *set, bitpacking_column *column)
 {
@@ -70,11 +51,24 @@ static void asks(size_t words, size_t classes_len, size_t at_least, size_t room,
         expect(walks[i].unpacked <= blocks[i], "more blocks are unpacked than there are");
 }
 
+/* As many of the best of these documents as fit are right. */
+static void asks_among(size_t len, size_t words, size_t classes_len, size_t room)
+{
+    const size_t wanted = len < room ? len : room;
+    size_t i;
+
+    memset(found, (int)drawn(256), sizeof found);
+    expect(bitpacking_best_among(given, len, terms, words, classes, classes_len, found, room) == (ptrdiff_t)wanted, "another number of documents");
+    for (i = 0; i < wanted; i++)
+        expect(found[i].score == right[i].score && found[i].id == right[i].id, "another document is among the best of those given");
+}
+
 /* A word adds 300 for each time, up to four times, less the class of the document. */
 static void worked(void)
 {
     static const uint32_t first[] = {1, 4, 7}, first_counts[] = {2, 1, 1}, second[] = {4, 9}, second_counts[] = {1, 3};
-    static const bitpacking_scored any[] = {{600, 1}, {600, 4}, {600, 9}, {300, 7}};
+    static const bitpacking_scored any[] = {{600, 1}, {600, 4}, {600, 9}, {300, 7}}, of_four[] = {{600, 4}, {600, 9}, {300, 7}, {0, 5}};
+    static const uint32_t four[] = {4, 5, 7, 9};
     size_t count, level, word;
 
     for (word = 0; word < 2; word++)
@@ -92,6 +86,11 @@ static void worked(void)
     right[0] = any[1];
     asks(2, 10, 2, 10, 1);
     asks(2, 10, 3, 10, 0);
+    memcpy(given, four, sizeof four);
+    memcpy(right, of_four, sizeof of_four);
+    asks_among(4, 2, 10, 10);
+    asks_among(4, 2, 10, 2);
+    asks_among(0, 2, 10, 10);
 }
 
 /* Draws the table of a word, and which documents have it. */
@@ -118,6 +117,18 @@ static void draw(size_t word)
     start(ids, counts, len, word, BITPACKING_CLASSES * rows[word]);
 }
 
+/* Draws documents. Returns how many there are. */
+static size_t draw_documents(void)
+{
+    const size_t one_in = drawn(20) + 1;
+    size_t i, len = 0;
+
+    for (i = 0; i < DOCUMENTS; i++)
+        if (drawn(one_in) == 0)
+            given[len++] = (uint32_t)i;
+    return len;
+}
+
 static int compared(const void *one, const void *other)
 {
     const bitpacking_scored *a = (const bitpacking_scored *)one, *b = (const bitpacking_scored *)other;
@@ -127,12 +138,13 @@ static int compared(const void *one, const void *other)
     return a->id < b->id ? -1 : 1;
 }
 
-/* Writes all documents with enough of the words in order. Returns how many there are. */
-static size_t scanned(size_t words, size_t classes_len, size_t at_least)
+/* Writes those of the given documents that have enough of the words, in order. Returns how many there are. */
+static size_t scanned(size_t len, size_t words, size_t classes_len, size_t at_least)
 {
-    size_t id, word, hits = 0;
+    size_t i, word, hits = 0;
 
-    for (id = 0; id < DOCUMENTS; id++) {
+    for (i = 0; i < len; i++) {
+        const uint32_t id = given[i];
         size_t has = 0;
         uint64_t score = 0;
 
@@ -143,9 +155,9 @@ static size_t scanned(size_t words, size_t classes_len, size_t at_least)
                 score += tables[word][BITPACKING_CLASSES * row + (id < classes_len ? classes[id] : 0)];
                 has++;
             }
-        if (has >= (at_least > 0 ? at_least : 1)) {
+        if (has >= at_least) {
             right[hits].score = score;
-            right[hits++].id = (uint32_t)id;
+            right[hits++].id = id;
         }
     }
     qsort(right, hits, sizeof *right, compared);
@@ -164,7 +176,7 @@ static void refuses(const bitpacking_set *set, const bitpacking_column *column, 
 
 static void errors(void)
 {
-    static const uint32_t some[] = {1, 2, 3};
+    static const uint32_t some[] = {1, 2, 3}, falling[] = {4, 5, 9, 9};
     const bitpacking_walk empty_walk = BITPACKING_WALK_EMPTY;
     const bitpacking_scored none = BITPACKING_SCORED_EMPTY;
     const bitpacking_set no_ids = BITPACKING_SET_EMPTY;
@@ -196,13 +208,19 @@ static void errors(void)
     expect(walks[0].unpacked == 77 && found[0].score == 0 && found[0].id == 0, "something is written at an error");
     expect(bitpacking_best(terms, 1, NULL, 0, 1, walks, 1, found, 0) == 0, "no room");
     expect(bitpacking_best(NULL, 0, NULL, 0, 0, NULL, 0, found, 10) == 0, "no words");
+    found[0].id = 77;
+    expect(bitpacking_best_among(falling, 4, terms, 1, NULL, 0, found, 10) == BITPACKING_NOT_SORTED, "documents that fall");
+    expect(bitpacking_best_among(falling, 4, terms, 268435457, NULL, 0, found, 10) == BITPACKING_TOO_LONG, "too many terms before documents that fall");
+    expect(found[0].id == 77, "something is written at an error");
+    expect(bitpacking_best_among(falling, 3, terms, 1, NULL, 0, found, 0) == 0, "no room among documents");
+    expect(bitpacking_best_among(falling, 3, NULL, 0, NULL, 0, found, 10) == 3 && found[0].id == 4 && found[2].score == 0, "no words of documents");
 }
 
 int main(void)
 {
     static const size_t rooms[] = {0, 1, 10, 200, DOCUMENTS};
     const bitpacking_term empty = BITPACKING_TERM_EMPTY;
-    size_t queries = 0, round, i, words, at_least;
+    size_t queries = 0, round, i, words, at_least, len;
 
     worked();
     terms[WORDS] = empty;
@@ -215,10 +233,17 @@ int main(void)
             classes[i] = (uint8_t)drawn(256);
         for (words = 1; words <= WORDS + 1; words++)
             for (at_least = 0; at_least <= words; at_least++) {
-                const size_t hits = scanned(words, classes_len, at_least);
+                size_t hits;
 
+                for (i = 0; i < DOCUMENTS; i++)
+                    given[i] = (uint32_t)i;
+                hits = scanned(DOCUMENTS, words, classes_len, at_least > 0 ? at_least : 1);
                 for (i = 0; i < sizeof rooms / sizeof *rooms; i++, queries++)
                     asks(words, classes_len, at_least, rooms[i], hits);
+                len = draw_documents();
+                scanned(len, words, classes_len, 0);
+                for (i = 0; i < sizeof rooms / sizeof *rooms; i++, queries++)
+                    asks_among(len, words, classes_len, rooms[i]);
             }
     }
     errors();

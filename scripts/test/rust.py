@@ -2,10 +2,9 @@
 """Tests the Rust crate, the package at the top of the repository, with warnings as errors:
 
 - its tests, the examples of its comments, and the programs of rust/examples/; clippy and rustdoc; the crate without the standard library;
-- what its package has, and that cargo can publish that and builds it alone;
+- that cargo can publish its package, and builds that alone;
 - programs outside the repository: one that takes the crate from a git repository, and is built of what `cargo vendor` wrote; one that gets it
-  through another crate, which asks for 0.9 of crates.io, by `[patch.crates-io]`; and one that packs a block, which has few bytes more than one that
-  does not.
+  through another crate, which asks for 0.9 of crates.io, by `[patch.crates-io]`.
 
 Nothing is fetched: the folder of cargo is empty. The last line is 'N passed, M failed'; a part that is left out for want of a tool is named.
 """
@@ -20,7 +19,7 @@ sys.path.insert(1, f"{sys.path[0]}/..")
 from common import ROOT, leave_out, left_out_without, missing, report, run, source
 import archives
 import by_cargo
-import c
+from files import failed, other, written
 import unproved
 
 TARGET = f"{archives.OUT}/target"
@@ -38,13 +37,7 @@ EXAMPLES = {
 PROGRAM = "block"
 # The tests that run under valgrind, by parts of their names.
 FILLING = ["column_reading", "column_searching", "column_appending", "set_combining::two_sets", "set_iter"]
-# What a package has of the repository, beside its manifest.
-PACKED = ["LICENSE", "docs/RUST.md", "crates/*/src", "rust/src", "rust/translate/src", "rust/examples"]
-MADE = {"Cargo.toml", "Cargo.toml.orig", "Cargo.lock", ".cargo_vcs_info.json"}
 MANIFEST = '[package]\nname = "{}"\nversion = "0.0.0"\nedition = "2024"\n\n[dependencies]\n{}\n'
-# The most bytes that a program has more which packs a block, than one that prints a line.
-GROWS = 100_000
-PRINTS = 'fn main() {\n    println!("128 ids in {} bytes", std::env::args().count());\n}\n'
 
 
 @functools.cache
@@ -65,34 +58,25 @@ def cargo(word, *words, package=".", **variables):
     return called(word, "--offline", "--locked", "--manifest-path", f"{ROOT}/{package}/Cargo.toml", *words, **flags | variables)
 
 
-def wrong(done):
-    """What cargo says if it failed, or None."""
-    return None if done.returncode == 0 else f"status {done.returncode}: {done.stdout[-2000:]}{done.stderr[-3000:]}"
-
-
 def printed(done, wanted):
     """What is wrong with a program that cargo ran, or None."""
-    return None if done.returncode == 0 and done.stdout == wanted else f"it printed {done.stdout}{done.stderr[-3000:]}"
+    return failed(done) or other(done.stdout, wanted)
 
 
 def tests():
-    """Each test and each example of the crate as a name and what is wrong, or None."""
+    """The tests and each example of the crate as a name and what is wrong, or None."""
     done = cargo("test", "--no-fail-fast")
-    results = re.findall(r"^test (.+) \.\.\. (.+)$", done.stdout, re.M)
-    if done.returncode != 0 or not results:
-        print(done.stdout[-4000:], done.stderr[-4000:])
-        yield "cargo test", f"it ended with {done.returncode}"
-    for name, result in results:
-        yield name, None if result == "ok" else result
+    yield from ((name, other(result, "ok")) for name, result in re.findall(r"^test (.+) \.\.\. (.+)$", done.stdout, re.M))
+    yield "cargo test", failed(done) or tested(done)
     for name, wanted in EXAMPLES.items():
         yield f"rust/examples/{name}.rs", printed(cargo("run", "--quiet", "--example", name), wanted)
     if missing("cargo-clippy"):
         leave_out("clippy", "since there is no cargo-clippy")
     else:
         packages = ["--package", "bitpacking", "--package", "bitpacking_c"]
-        yield "cargo clippy", wrong(cargo("clippy", "--all-targets", *packages, "--", "-D", "warnings"))
-    yield "cargo doc", wrong(cargo("doc", "--no-deps"))
-    yield "the crate without the standard library", wrong(cargo("check", "--no-default-features"))
+        yield "cargo clippy", failed(cargo("clippy", "--all-targets", *packages, "--", "-D", "warnings"))
+    yield "cargo doc", failed(cargo("doc", "--no-deps"))
+    yield "the crate without the standard library", failed(cargo("check", "--no-default-features"))
 
 
 def in_a_release():
@@ -101,7 +85,7 @@ def in_a_release():
     done = cargo("test", "--profile", "quick", "--lib", "--no-run")
     named = re.search(r"Executable .* \((.+)\)", done.stderr)
     if not named:
-        yield "tests in a release", wrong(done) or f"no program is named: {done.stderr[-2000:]}"
+        yield "tests in a release", failed(done) or f"no program is named: {done.stderr[-2000:]}"
         return
     program = os.path.join(ROOT, named[1])
     yield "deep trees in a release", tested(run(program, "set_query"))
@@ -117,33 +101,15 @@ def tested(done):
     return None if done.returncode == 0 and passed else done.stdout[-3000:]
 
 
-def tracked(path):
-    """The files of the package at a path of PACKED."""
-    ending = {"crates/*/src": ".rt"}.get(path, "")
-    return {it for it in run("git", "ls-files", f":(glob){path}/**", path).stdout.split() if it.endswith(ending)}
-
-
 def packed(folder):
     """Each check of the package as a name and what is wrong, or None. Its index of crates is a folder."""
-    listed = cargo("package", "--allow-dirty", "--list")
-    found, wanted = set(listed.stdout.split()) - MADE, set().union(*map(tracked, PACKED))
-    right = listed.returncode == 0 and found == wanted
-    yield "the files of the package", None if right else f"they differ in {sorted(found ^ wanted)[:9]} {listed.stderr[-2000:]}"
     written(f"{folder}/index", {"config.json": '{"dl": "file:///nowhere", "api": "file:///nowhere"}\n'})
     committed(f"{folder}/index")
     # What cargo builds of the package it would take for what it builds here.
     flags = {"CARGO_TARGET_DIR": f"{folder}/target", "CARGO_REGISTRIES_LOCAL_INDEX": f"file://{folder}/index", "RUSTFLAGS": "-D warnings"}
     done = called("publish", "--dry-run", "--allow-dirty", "--locked", "--registry", "local", **flags)
     built = re.search(r"Verifying .*\n.*Compiling bitpacking .*\n.*Finished", done.stderr)
-    yield "cargo publish --dry-run", wrong(done) if done.returncode or built else f"it did not build the package: {done.stderr}"
-
-
-def written(folder, texts):
-    """Writes files into a folder: their paths and their texts."""
-    for path, text in texts.items():
-        os.makedirs(os.path.dirname(f"{folder}/{path}"), exist_ok=True)
-        with open(f"{folder}/{path}", "w", encoding="utf-8") as file:
-            file.write(text)
+    yield "cargo publish --dry-run", failed(done) or (None if built else f"it did not build the package: {done.stderr}")
 
 
 def committed(folder):
@@ -159,16 +125,9 @@ def ran(folder, wanted, *words, **variables):
     return printed(called("run", "--quiet", "--offline", "--", *words, folder=folder, **more), wanted)
 
 
-def depends(folder, **variables):
-    """The program in a folder, which is PROGRAM, as a name and what is wrong, or None. It has to fail if another output is wanted."""
-    yield f"{PROGRAM}.rs outside the repository", ran(folder, EXAMPLES[PROGRAM], **variables)
-    why = ran(folder, c.miscounted(EXAMPLES[PROGRAM]), **variables) or ""
-    yield f"another output of {PROGRAM}.rs", None if why.startswith(f"it printed {EXAMPLES[PROGRAM]}") else f"it does not fail so: {why}"
-
-
-def program(folder, dependency, more=""):
+def program(folder, dependency):
     """Writes a package with PROGRAM over this crate."""
-    manifest = MANIFEST.format("it", f"bitpacking = {dependency}") + more
+    manifest = MANIFEST.format("it", f"bitpacking = {dependency}")
     written(folder, {"Cargo.toml": manifest, "src/main.rs": source(f"rust/examples/{PROGRAM}.rs")})
 
 
@@ -188,25 +147,9 @@ def vendored(folder):
     committed(f"{folder}/tracked")
     program(f"{folder}/it", f'{{ git = "file://{folder}/tracked" }}')
     done = called("vendor", folder=f"{folder}/it")
-    yield "cargo vendor", wrong(done)
-    if done.returncode == 0:
-        written(f"{folder}/it", {".cargo/config.toml": done.stdout})
-        os.makedirs(f"{folder}/home")
-        yield from depends(f"{folder}/it", CARGO_HOME=f"{folder}/home")
-
-
-def small(folder):
-    """How many bytes a program that packs a block has more than one that packs nothing, as a name and what is wrong, or None."""
-    sizes = []
-    for prints in [True, False]:
-        program(folder, f'{{ path = "{ROOT}" }}', "\n[profile.release]\nstrip = true\n")
-        if prints:
-            written(folder, {"src/main.rs": PRINTS})
-        done = called("build", "--offline", "--release", folder=folder, CARGO_TARGET_DIR=f"{folder}/target")
-        if done.returncode != 0:
-            return wrong(done)
-        sizes.append(os.path.getsize(f"{folder}/target/release/it"))
-    return None if 0 < sizes[1] - sizes[0] < GROWS else f"it is {sizes[1]}, and without the block {sizes[0]}"
+    written(f"{folder}/it", {".cargo/config.toml": done.stdout})
+    os.makedirs(f"{folder}/home")
+    yield "cargo vendor", failed(done) or ran(f"{folder}/it", EXAMPLES[PROGRAM], CARGO_HOME=f"{folder}/home")
 
 
 def checks():
@@ -216,7 +159,6 @@ def checks():
         yield from packed(f"{folder}/packed")
         yield from vendored(f"{folder}/vendored")
         yield "a crate that asks for 0.9 of crates.io", through_another(f"{folder}/through", ROOT)
-        yield "the size of a program that packs a block", small(f"{folder}/small")
 
 
 def main():

@@ -2,7 +2,8 @@
 """Builds the search engine of examples/search/ in Rust and in C, with warnings as errors, and tries both on the same files: their indexes
 have to be the same bytes, and their answers the same text. The answers on examples/search/corpus/ are compared with `grep`, others with
 numbers worked by hand, and the best documents with those of ranked.py. Last come a thousand damaged indexes, in C with the address sanitizer.
-The program in C takes the archives that scripts/build/archives.py wrote, which is called where they are not there. The last line is 'N passed, M failed'.
+The program in C takes the archives that scripts/build/archives.py wrote, which is called if they are not there. The last line is 'N passed, M
+failed'.
 """
 import os
 import random
@@ -17,13 +18,13 @@ sys.path.insert(1, f"{sys.path[0]}/..")
 from common import ROOT, leave_out, report, run
 import archives
 import c
-from forging import ITEMS, assembled, forged
+from files import bytes_of, failed, other, written
 import ranked
 import rust
 
 FOLDER = "examples/search"
 CORPUS = f"{ROOT}/{FOLDER}/corpus"
-SOURCES = [f"{ROOT}/{FOLDER}/{name}.c" for name in ("search", "index", "best")]
+SOURCES = [f"{ROOT}/{FOLDER}/{name}.c" for name in ("search", "index")]
 # The status of a program that the sanitizer ends.
 STOPPED = 99
 ENVIRONMENT = dict(os.environ, ASAN_OPTIONS=f"detect_leaks=0:exitcode={STOPPED}", UBSAN_OPTIONS=f"exitcode={STOPPED}", LC_ALL="C")
@@ -33,26 +34,18 @@ DAMAGES = 1000
 
 # Queries, and what they mean by the sets of documents in which grep finds a word.
 QUERIES = {
-    "water": lambda has: has("water"),
     "WARM water": lambda has: has("water") & has("warm"),
     "water -warm": lambda has: has("water") - has("warm"),
-    "oven|clock": lambda has: has("oven") | has("clock"),
     "warm (oven | hive) -bread": lambda has: (has("warm") & (has("oven") | has("hive"))) - has("bread"),
     "warm oven | winter -bees": lambda has: (has("warm") & has("oven")) | (has("winter") - has("bees")),
     "water - (warm | cold) -(sea moon)": lambda has: has("water") - (has("warm") | has("cold")) - (has("sea") & has("moon")),
-    "mo*": lambda has: has("mo[a-z0-9]*"),
     "mo* -moon* night": lambda has: (has("mo[a-z0-9]*") & has("night")) - has("moon[a-z0-9]*"),
     "t* water | 2*": lambda has: (has("t[a-z0-9]*") & has("water")) | has("2[a-z0-9]*"),
-    "caf": lambda has: has("caf"),
-    "((water))": lambda has: has("water"),
     "water zebra": lambda has: set(),
     "zebra | water -zeb*": lambda has: has("water"),
-    "zebra": lambda has: set(),
     # Signs end a word of a query as they do in documents, and a sign that is no part of a word says nothing.
-    "warm'water": lambda has: has("water") & has("warm"),
     "caf\u00E9": lambda has: has("caf"),
     "oven-clock | wi-fi": lambda has: (has("oven") & has("clock")) | (has("wi") & has("fi")),
-    "+water, & warm!": lambda has: has("water") & has("warm"),
     "water -warm'cold": lambda has: has("water") - (has("warm") & has("cold")),
     "2.5 | bees*": lambda has: (has("2") & has("5")) | has("bees[a-z0-9]*"),
     "warm-mo*": lambda has: has("warm") & has("mo[a-z0-9]*"),
@@ -60,29 +53,26 @@ QUERIES = {
 }
 # A thousand paragraphs: each has its number, and one word more for each of these that divides the number.
 NUMBERS = {"even": 2, "fizz": 3, "buzz": 5}
-# How many of them answer a query, by hand: 1000/2 = 500, 333, 200, and 33 multiples of 30; 333 + 200 - 66; 500 - 166; 467 - 233. With 1
+# How many of them answer a query, by hand: 1000/2 = 500, 333, 200, and 33 multiples of 30; 500 - 166; 467 - 233. With 1
 # begin 1, 10 to 19, 100 to 199 and 1000, and with 10 begin 10, 100 to 109 and 1000.
 COUNTS = {
     "number": 1000,
-    "n*": 1000,
     "n1*": 112,
     "n1* -n10*": 100,
     "fizz buzz even": 33,
-    "fizz | buzz": 467,
     "even -fizz": 334,
     "(fizz | buzz) -even": 234,
     "n7 even": 0,
-    "number-n7": 1,
-    "n1*.n10": 0,
+    # 70 brackets after one another, whose operands wait for the next word, and 60 after a minus, of which every second takes its number away.
+    "number (" * 70 + "fizz" + ")" * 70: 333,
+    "number -(" * 60 + "fizz" + ")" * 60: 333,
     " | ".join(f"n{k}" for k in range(1, 101)): 100,
 }
-# What is read for a query, and how many answer it, by hand. A set of 1000 documents has 8 blocks of 128 positions.
-# With 3 begin 3, 30 to 39 and 300 to 399, whose 111 sets are united; of these numbers 1 + 4 + 34 are multiples of 3.
-BEGIN_WITH_3 = [f"n{k}: 1 documents in 1 blocks" for k in sorted(map(str, [3, *range(30, 40), *range(300, 400)]))]
-UNITED = "unite of 111 sets: 111 documents"
+# What is read for a query, and how many answer it, by hand. With 3 begin 3, 30 to 39 and 300 to 399; of these numbers 1 + 4 + 34 are multiples of 3.
+BEGIN_WITH_3 = [f"n{k}: 1 documents" for k in sorted(map(str, [3, *range(30, 40), *range(300, 400)]))]
 EXPLAINED = {
-    "number n30": (["number: 1000 documents in 8 blocks", "n30: 1 documents in 1 blocks", "intersect of 2 sets: 1 documents"], 1),
-    "fizz -n3*": (["fizz: 333 documents in 3 blocks", *BEGIN_WITH_3, UNITED, "subtract of 2 sets: 294 documents"], 333 - 39),
+    "number n30": (["number: 1000 documents", "n30: 1 documents", "a query of 2 sets: 1 documents"], 1),
+    "fizz -n3*": (["fizz: 333 documents", *BEGIN_WITH_3, "a query of 112 sets: 294 documents"], 333 - 39),
 }
 # Files, and the names that their documents get, in the order of their bytes. None is there for a file that is left out.
 FILES = {
@@ -111,14 +101,14 @@ REFUSED = {
     "a (b": ("a (b", "a bracket is not closed"),
     "a)": ("a", "no bracket is open"),
     "": ("", NO_WORD),
-    "a |": ("a |", NO_WORD),
-    "a ()": ("a (", NO_WORD),
     "a | -b": ("a | -b", NO_WORD),
-    "*": ("*", NO_WORD),
     "' + |": ("' + ", NO_WORD),
     "a* caf\u00E9 (": ("a* caf\u00E9 (", NO_WORD),
+    # 65 sets wait, one more than a query may have.
+    "a -(" * 64 + "a" + ")" * 64: ("a -(" * 64 + "a" + ")" * 64, "too many brackets after a minus are nested"),
 }
 LONGEST_QUERY = 1000
+MISSING, NO_REGULAR = "No such file or directory", "it is no regular file, and is not replaced"
 
 
 class Programs:
@@ -138,7 +128,7 @@ class Programs:
         self.paths["rust"] = f"{archives.OUT}/target/release/search"
 
     def add(self, name, built):
-        self.faults.append((name, None if built.returncode == 0 else f"{built.stdout[-2000:]} {(built.stderr or '')[-2000:]}"))
+        self.faults.append((name, failed(built)))
 
     def run(self, name, *arguments):
         """The status of a program, what it prints, and its messages."""
@@ -155,21 +145,12 @@ class Programs:
 
     def index(self, *arguments):
         """Writes an index with each of the programs. Returns its name, and what is wrong if the bytes differ or a program says more."""
-        written = {}
         for name in self.paths:
             status, _, messages = self.run(name, "index", *arguments, f"index.{name}")
             if status != 0 or messages:
                 return None, f"{name} ends with {status}, and says {messages}"
-            with open(f"{self.folder}/index.{name}", "rb") as file:
-                written[name] = file.read()
-        return "index.c", None if len(set(written.values())) == 1 else "the programs write other bytes"
-
-
-def write(folder, files):
-    for path, text in files.items():
-        os.makedirs(os.path.dirname(f"{folder}/{path}"), exist_ok=True)
-        with open(f"{folder}/{path}", "wb") as file:
-            file.write(text)
+        indexes = {bytes_of(f"{self.folder}/index.{name}") for name in self.paths}
+        return "index.c", None if len(indexes) == 1 else "the programs write other bytes"
 
 
 def paragraphs_of_corpus():
@@ -178,8 +159,7 @@ def paragraphs_of_corpus():
     for parent, _, names in os.walk(CORPUS):
         for name in names:
             path = os.path.relpath(f"{parent}/{name}", CORPUS)
-            with open(f"{CORPUS}/{path}", "rb") as file:
-                lines = file.read().split(b"\n")
+            lines = bytes_of(f"{CORPUS}/{path}").split(b"\n")
             begins = [k for k, line in enumerate(lines) if line.strip() and (k == 0 or not lines[k - 1].strip())]
             for begin, end in zip(begins, begins[1:] + [len(lines)]):
                 found[f"{path}:{begin + 1}"] = b"\n".join(lines[begin:end])
@@ -194,7 +174,7 @@ def against_grep(programs):
     """The answers on the corpus, in which a document is a file and then a paragraph."""
     folder = programs.folder
     os.symlink(CORPUS, f"{folder}/corpus")
-    write(f"{folder}/split", paragraphs_of_corpus())
+    written(f"{folder}/split", paragraphs_of_corpus())
     for option, searched in ((), "corpus/"), (("--paragraphs",), "split"):
         index, wrong = programs.index(*option, "corpus/")
         yield f"an index of {searched}", wrong
@@ -215,7 +195,7 @@ def against_grep(programs):
 def by_hand(programs):
     """Answers that were worked by hand."""
     text = "\n\n".join(f"number n{k}" + "".join(f" {word}" for word, by in NUMBERS.items() if k % by == 0) for k in range(1, 1001))
-    write(f"{programs.folder}/numbers", {"numbers.txt": text.encode()})
+    written(f"{programs.folder}/numbers", {"numbers.txt": text.encode()})
     index, wrong = programs.index("--paragraphs", "numbers")
     yield "an index of numbers", wrong
     for query, count in COUNTS.items():
@@ -223,44 +203,26 @@ def by_hand(programs):
         right = (status, text) == (0 if count else 1, f"{count} of 1000 documents\n")
         yield f"how many have {query}", wrong or (None if right else f"printed {text}")
         _, text, _, wrong = programs.same("find", "--best", "999", index, query)
-        found = len(re.findall(r"^ *[\d.]+  numbers/numbers.txt:", text, re.M))
-        yield f"the best of {query}", wrong or (None if found == min(count, 999) else f"found {found}")
+        yield f"the best of {query}", wrong or other(len(re.findall(r"^ *[\d.]+  numbers/numbers.txt:", text, re.M)), min(count, 999))
     for query, (explained, count) in EXPLAINED.items():
         for name in programs.paths:
             answer = programs.run(name, "find", "--count", "--explain", index, query)
-            right = answer == (0, f"{count} of 1000 documents\n", "\n".join([*explained, ""]))
-            yield f"{query} explained in {name}", None if right else f"answered {answer}"
+            yield f"{query} explained in {name}", other(answer, (0, f"{count} of 1000 documents\n", "\n".join([*explained, ""])))
 
-    write(f"{programs.folder}/F", SCORED)
+    written(f"{programs.folder}/F", SCORED)
     index, wrong = programs.index("F/")
     yield "an index of two files", wrong
     for query, wanted in SCORES.items():
         _, text, _, wrong = programs.same("find", index, query)
-        yield f"the scores for {query}", wrong or (None if text == wanted else f"printed {text}")
+        yield f"the scores for {query}", wrong or other(text, wanted)
 
-    write(f"{programs.folder}/files", {path: text for path, (text, _) in FILES.items()})
+    written(f"{programs.folder}/files", {path: text for path, (text, _) in FILES.items()})
     index, wrong = programs.index("files")
     yield "an index of files", wrong
     _, text, _, wrong = programs.same("find", index, "word")
     found = sorted(re.findall(r"^ *[\d.]+  files/(.*)$", text, re.M))
-    wanted = sorted(name for _, name in FILES.values() if name)
-    yield "the names of documents", wrong or (None if found == wanted else f"printed {text}")
+    yield "the names of documents", wrong or other(found, sorted(name for _, name in FILES.values() if name))
     yield "a word of 64 letters and one of 65", programs.same("find", "--count", index, "x* -y*")[3]
-
-
-def on_terminal(programs):
-    """What a terminal shows while an index is made: last, that the eight files were read."""
-    try:
-        ours, theirs = os.openpty()
-    except OSError as error:
-        leave_out("the line of progress", f"since there is no terminal: {error}")
-        return
-    for name, path in programs.paths.items():
-        run(path, "index", "files", "shown", folder=programs.folder, env=ENVIRONMENT, stderr=theirs)
-        shown = os.read(ours, 1000)
-        yield f"the line of progress in {name}", None if shown.endswith(b"\r8 files\r\n") else f"the terminal shows {shown}"
-    os.close(ours)
-    os.close(theirs)
 
 
 def refusals(programs):
@@ -271,21 +233,22 @@ def refusals(programs):
     messages["(" * LONGEST_QUERY] = f"the query, after '{'(' * LONGEST_QUERY}': {NO_WORD}"
     for query, message in messages.items():
         for name in programs.paths:
-            answer, wanted = programs.run(name, "find", index, query), (2, "", f"search: {index}: {message}\n")
-            yield f"the query {query[:20]} in {name}", None if answer == wanted else f"answered {answer}"
-    options = [["--all"], ["--best", "x"], ["--best", "-1"], ["--best", "1000"]]
-    usages = [[], ["seek", index, "a"], ["index", "files"], *(["find", *option, index, "a"] for option in options)]
-    calls = {f"the arguments {arguments}": (arguments, "search --help says what is wanted") for arguments in usages}
-    calls |= {
-        "no folder": (["index", "nowhere", "new"], "nowhere: No such file or directory"),
-        "no place for the index": (["index", "files", "nowhere/new"], "nowhere/new: No such file or directory"),
-        **{
-            f"{what} in the place of the index": (["index", "files", path], f"{path}: it is no regular file, and is not replaced")
-            for what, path in [("a folder", "split"), ("a link", "link"), ("a pipe", "pipe"), ("a device", "/dev/null")]
-        },
-        "no index": (["find", "nowhere", "a"], "nowhere: No such file or directory"),
-        "text for an index": (["find", "files/b-x", "a"], "files/b-x: this is no index: it does not begin with 'search3'"),
-    }
+            yield f"the query {query[:20]} in {name}", other(
+                programs.run(name, "find", index, query), (2, "", f"search: {index}: {message}\n")
+            )
+    usages = [[], ["seek", index, "a"], ["index", "files"], *(["find", "--best", it, index, "a"] for it in ("x", "-1", "1000"))]
+    calls = {f"the arguments {it}": (it, "search --help says what is wanted") for it in usages}
+    for path, message in {
+        "split": NO_REGULAR,
+        "link": NO_REGULAR,
+        "pipe": NO_REGULAR,
+        "/dev/null": NO_REGULAR,
+        "nowhere/new": MISSING,
+    }.items():
+        calls[f"an index at {path}"] = ["index", "files", path], f"{path}: {message}"
+    calls["no folder"] = ["index", "nowhere", "new"], f"nowhere: {MISSING}"
+    calls["no index"] = ["find", "nowhere", "a"], f"nowhere: {MISSING}"
+    calls["text for an index"] = ["find", "files/b-x", "a"], "files/b-x: this is no index: it does not begin with 'search4'"
     os.symlink(index, f"{programs.folder}/link")
     os.mkfifo(f"{programs.folder}/pipe")
     before = sorted(os.listdir(programs.folder))
@@ -297,40 +260,6 @@ def refusals(programs):
     for name in programs.paths:
         status, text, messages = programs.run(name, "--help")
         yield f"--help in {name}", None if status == 0 and text.startswith("A small search engine") else f"{status} {messages}"
-
-
-def kills(programs):
-    """Runs that the system ends when they have written a byte. Each leaves a file, which the next run removes, as it does not the file of a
-    process that runs, or one with another name."""
-    others = [f"killed.{os.getpid()}.tmp", "killed.x.tmp", "killed.1.tmp.x", "others.99999999.tmp"]
-    write(programs.folder, {name: b"" for name in others})
-    for name, path in programs.paths.items():
-        if name == "sanitized":
-            continue
-        given = {"folder": programs.folder, "env": ENVIRONMENT, "stderr": subprocess.PIPE}
-        before = set(os.listdir(programs.folder))
-        limit = lambda: resource.setrlimit(resource.RLIMIT_FSIZE, (1, 1))
-        killed = run(path, "index", "files", "killed", preexec_fn=limit, **given)
-        left = set(os.listdir(programs.folder)) - before
-        yield f"{name} is killed", None if killed.returncode < 0 and len(left) == 1 else f"ended with {killed.returncode}, and left {left}"
-        done = run(path, "index", "files", "killed", **given)
-        new = set(os.listdir(programs.folder)) - before
-        right = done.returncode == 0 and new == {"killed"} and before <= set(os.listdir(programs.folder))
-        yield f"what {name} left", None if right else f"ended with {done.returncode} {done.stderr}, and there is {new}"
-        os.remove(f"{programs.folder}/killed")
-
-
-def forgeries(programs):
-    """Searches in forged indexes. One that is assembled and not forged is the index itself."""
-    programs.index("F/")
-    with open(f"{programs.folder}/index.c", "rb") as file:
-        yield "an index by hand", None if assembled(ITEMS) == file.read() else "it is another than the programs write"
-    for what, text in forged():
-        write(programs.folder, {"damaged": text})
-        for name in programs.paths:
-            status, printed, messages = programs.run(name, "find", "damaged", "a b")
-            right = (status, printed) == (2, "") and messages.startswith(f"search: damaged: the index is damaged: {what}")
-            yield f"{what} in {name}", None if right else f"answered {status} {printed} {messages}"
 
 
 def damaged(number, whole):
@@ -356,6 +285,24 @@ def fault_of_damaged(programs, must_fail, query):
     return f"said {messages}" if status == 2 and not messages.startswith("search: damaged: ") else None
 
 
+def kills(programs):
+    """Runs that the system ends when they have written a byte. Each leaves a file, which the next run removes, as it does not the file of a
+    process that runs, or one with another name."""
+    written(programs.folder, {it: "" for it in (f"killed.{os.getpid()}.tmp", "killed.x.tmp", "killed.1.tmp.x", "others.99999999.tmp")})
+    for name, path in programs.paths.items():
+        if name == "sanitized":
+            continue
+        given = {"folder": programs.folder, "env": ENVIRONMENT, "stderr": subprocess.PIPE}
+        before = set(os.listdir(programs.folder))
+        limit = lambda: resource.setrlimit(resource.RLIMIT_FSIZE, (1, 1))
+        killed = run(path, "index", "files", "killed", preexec_fn=limit, **given)
+        left = set(os.listdir(programs.folder)) - before
+        yield f"{name} is killed", other((killed.returncode < 0, len(left)), (True, 1))
+        done = run(path, "index", "files", "killed", **given)
+        yield f"what {name} left", failed(done) or other(set(os.listdir(programs.folder)), before | {"killed"})
+        os.remove(f"{programs.folder}/killed")
+
+
 def damages(programs):
     """Searches in damaged indexes, by queries that read all lists of the index, or those of some words."""
     refused = 0
@@ -363,12 +310,10 @@ def damages(programs):
     queries = ["number | even | fizz | buzz | water | warm | clock", every, "number even fizz", "number -n1*"]
     for first, arguments in (0, ("corpus",)), (DAMAGES // 2, ("--paragraphs", "numbers")):
         index, _ = programs.index(*arguments)
-        with open(f"{programs.folder}/{index}", "rb") as file:
-            whole = file.read()
+        whole = bytes_of(f"{programs.folder}/{index}")
         for number in range(first, first + DAMAGES // 2):
             text, must_fail = damaged(number, whole)
-            with open(f"{programs.folder}/damaged", "wb") as file:
-                file.write(text)
+            written(programs.folder, {"damaged": text})
             try:
                 wrong = fault_of_damaged(programs, must_fail, queries[number // 4 % len(queries)])
             except subprocess.TimeoutExpired:
@@ -384,7 +329,7 @@ def checks():
         programs = Programs(folder)
         yield from programs.faults
         if all(why is None for _, why in programs.faults):
-            for part in against_grep, by_hand, ranked.checks, on_terminal, refusals, kills, forgeries, damages:
+            for part in against_grep, by_hand, ranked.checks, refusals, kills, damages:
                 yield from part(programs)
 
 

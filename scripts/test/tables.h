@@ -1,4 +1,5 @@
-/* Reads tables of vectors/ from the standard input, one after the other. The first line of a table has the names of its columns. */
+/* What the programs share: they say what is wrong, draw numbers, and read tables of vectors/ from the standard input, one after the other. The first
+   line of a table has the names of its columns. */
 #ifndef TABLES_H
 #define TABLES_H
 
@@ -21,9 +22,27 @@ static enum {
 static const char *const heads[TABLES] = {"ids\tbytes", "number\tfault\tbytes", "ids\tothers\tboth", "kind\tvalues\tbytes"};
 
 static char line[LINE];
+static int failed;
+
+static void expect(int is, const char *what)
+{
+    if (!is) {
+        printf("%s: %.100s\n", what, line);
+        failed = 1;
+    }
+}
+
+/* A number below a bound that is not 0. */
+static inline uint32_t drawn(uint64_t bound)
+{
+    static uint64_t state = 1;
+
+    state = state * 6364136223846793005u + 1442695040888963407u;
+    return (uint32_t)((state >> 32) * bound >> 32);
+}
 
 /* Whether the line is the first of a table, which is then the table of the rows after it. */
-static int is_head(void)
+static inline int is_head(void)
 {
     size_t i;
 
@@ -35,7 +54,7 @@ static int is_head(void)
 }
 
 /* Reads the next row into line, and points to its columns: NULL after the last. Returns whether there is one. */
-static int next_row(char *column[COLUMNS])
+static inline int next_row(char *column[COLUMNS])
 {
     while (fgets(line, sizeof line, stdin)) {
         int i;
@@ -59,7 +78,7 @@ static inline uint8_t kind_of(const char *name)
     return *name != 'p'; /* plain or sorted */
 }
 
-static unsigned digit(char it)
+static inline unsigned digit(char it)
 {
     return (unsigned)(it <= '9' ? it - '0' : it - 'a' + 10);
 }
@@ -89,7 +108,7 @@ static inline size_t read_bytes(const char *digits, uint8_t *bytes)
 }
 
 /* The values between commas, or none of "-". `5-9` is five of them, and `0-8/2` those with steps of 2. */
-static size_t read_values(char *text, uint32_t *values)
+static inline size_t read_values(char *text, uint32_t *values)
 {
     size_t len = 0;
     char *end;

@@ -43,48 +43,43 @@ def answer_of(call, *given):
         return f"{name}({', '.join(map(str, details))})" if details else str(name)
 
 
+def of(row):
+    """The lanes and the kind of a row."""
+    return int(row.get("lanes") or row["packer"][0]), KINDS.index(row["kind"])
+
+
 def block_checks(names):
     """What the implementation finds beside what is right, with the name of the vector."""
     for row in table("refused_blocks.tsv"):
-        call, read = names[row["call"]], numbers if row["call"] == "pack" else octets
-        lanes, kind, width = int(row["packer"][0]), KINDS.index(row["kind"]), int(row["width"])
+        call, read, (lanes, kind), width = names[row["call"]], numbers if row["call"] == "pack" else octets, of(row), int(row["width"])
         found = answer_of(call, lanes, kind, names["start_of"](kind, row["initial"]), width, read(row["given"]))
         yield f"refused {row['call']} {row['packer']} {width}", found, row["number"]
     for row in [*table("loose.tsv"), *table("single.tsv"), *table("blocks.tsv")]:
-        lanes, kind, width = int(row["packer"][0]), KINDS.index(row["kind"]), int(row["width"])
-        start, values, body = names["start_of"](kind, row["initial"]), numbers(row["values"]), octets(row["bytes"])
-        name = f"block {row['packer']} {row['kind']} {row['initial']} {row['width']}"
+        (lanes, kind), width, values, body = of(row), int(row["width"]), numbers(row["values"]), octets(row["bytes"])
+        start, name = names["start_of"](kind, row["initial"]), f"block {row['packer']} {row['kind']} {row['initial']} {row['width']}"
         yield f"{name}, least width", names["width_of"](names["codes_of"](kind, start, values)), int(row.get("least", width))
         yield f"{name}, body", answer_of(names["pack"], lanes, kind, start, width, values), body
         yield f"{name}, values", answer_of(names["unpack"], lanes, kind, start, width, body), values
 
 
 def list_checks(names):
-    for version, decode in [("", names["decode"]), ("2", names["decode2"])]:
+    for version in "", "2":
         for row in table(f"refused{version}.tsv"):
-            found = answer_of(decode, int(row["lanes"]), octets(row["bytes"]))
+            found = answer_of(names[f"decode{version}"], int(row["lanes"]), octets(row["bytes"]))
             yield f"refused{version} {row['bytes'][:80]}", found, row["fault"]
         for row in table(f"lists{version}.tsv"):
-            lanes, kind = int(row["lanes"]), KINDS.index(row["kind"])
-            values, text = numbers(row["values"]), octets(row["bytes"])
-            yield f"list{version} {row['bytes'][:80]}", answer_of(decode, lanes, text), (kind, values)
-            encode = names[f"encode{version}"]
-            yield f"text{version} {row['bytes'][:80]}", answer_of(encode, lanes, kind, values), text
+            (lanes, kind), values, text = of(row), numbers(row["values"]), octets(row["bytes"])
+            yield f"list{version} {row['bytes'][:80]}", answer_of(names[f"decode{version}"], lanes, text), (kind, values)
+            yield f"text{version} {row['bytes'][:80]}", answer_of(names[f"encode{version}"], lanes, kind, values), text
 
 
 def upgrade_checks(names):
-    for row in table("upgrade.tsv"):
-        right = octets(row["upgraded"]) if row["fault"] == "-" else row["fault"]
+    for row in [*table("upgrade.tsv"), *table("refused.tsv")]:
+        right = octets(row["upgraded"]) if row.get("upgraded") and row["fault"] == "-" else row["fault"]
         yield f"upgrade {row['bytes'][:80]}", answer_of(names["upgrade"], int(row["lanes"]), octets(row["bytes"])), right
-    for row in table("refused.tsv"):
-        yield f"upgrade {row['bytes'][:80]}", answer_of(names["upgrade"], int(row["lanes"]), octets(row["bytes"])), row["fault"]
-
-
-def encoder_checks(names):
     for row in table("refused_values.tsv"):
-        lanes, kind, values = int(row["lanes"]), KINDS.index(row["kind"]), numbers(row["values"])
-        found = answer_of(names["encode2"], lanes, kind, values)
-        yield f"refused values {row['kind']} {lanes} {row['values'][:80]}", found, f"NotSorted({row['position']})"
+        found = answer_of(names["encode2"], *of(row), numbers(row["values"]))
+        yield f"refused values {row['kind']} {row['lanes']} {row['values'][:80]}", found, f"NotSorted({row['position']})"
 
 
 def seek_checks(names):
@@ -95,14 +90,13 @@ def seek_checks(names):
         for target, right in zip(numbers(row["targets"]), row["found"].split(",")):
             found = answer_of(names["seek"], int(row["lanes"]), values, target)
             yield f"seek {target} {row['bytes'][:80]}", ":".join(map(str, found)) if found else "none", right
-    for row in table("lists2.tsv"):
-        if row["kind"] == "plain":
-            yield f"seek {row['bytes'][:80]}", answer_of(names["opened"], int(row["lanes"]), octets(row["bytes"])), "BadKind(0)"
-    for row in table("refused2.tsv"):
+    plain = [row | {"fault": "BadKind(0)"} for row in table("lists2.tsv") if row["kind"] == "plain"]
+    for row in [*plain, *table("refused2.tsv")]:
         yield f"seek {row['bytes'][:80]}", answer_of(names["opened"], int(row["lanes"]), octets(row["bytes"])), row["fault"]
 
 
-def intersect_checks(names):
+def query_checks(names):
+    yield from itertools.chain(upgrade_checks(names), seek_checks(names))
     for row in table("intersect.tsv"):
         one, other = ((int(row[f"{which}lanes"]), octets(row[f"{which}bytes"])) for which in ["", "other_"])
         one, other = ((lanes, answer_of(names["opened"], lanes, text)) for lanes, text in [one, other])
@@ -112,15 +106,11 @@ def intersect_checks(names):
         yield f"{which}, as sets", sorted({*one[1]} & {*other[1]}), right
 
 
-def query_checks(names):
-    return itertools.chain(upgrade_checks(names), encoder_checks(names), seek_checks(names), intersect_checks(names))
-
-
 def long_list_checks(names):
     """Lists whose values are those of the rule of docs/VECTORS.md, and whose texts are known by their digest."""
     read = []
     for row in table("digests.tsv"):
-        lanes, kind, bits, version = int(row["lanes"]), KINDS.index(row["kind"]), int(row["bits"]), row["version"].strip("1")
+        (lanes, kind), bits, version = of(row), int(row["bits"]), row["version"].strip("1")
         codes = [x >> 32 - bits for x in drawn(int(row["count"]))]
         values = names["block_values"](kind, [0, 0, 2**32 - 1][kind], codes)
         name, text = f"{row['count']} {row['kind']} values, version {row['version']}", names[f"encode{version}"](lanes, kind, values)
@@ -157,18 +147,9 @@ def column_checks(names):
                 yield f"refused values {row['bytes'][:80]}", answer_of(names["encode_column"], kind, wrong), f"NotSorted({p + 1})"
 
 
-def line_checks(names):
-    for line, right in lines_by_hand():
-        yield line, names["answer"](line), right
-
-
 CHECKS = {
-    "blocks": block_checks,
-    "lists": list_checks,
-    "queries": query_checks,
-    "id_sets": id_set_checks,
-    "columns": column_checks,
-    "lines": line_checks,
+    **{"blocks": block_checks, "lists": list_checks, "queries": query_checks, "id_sets": id_set_checks, "columns": column_checks},
+    "lines": lambda names: ((line, names["answer"](line), right) for line, right in lines_by_hand()),
     "long_lists": long_list_checks,
 }
 

@@ -93,7 +93,7 @@ def in_browser(wasm):
 def checks():
     try:
         wasm = f"{machines.built(MACHINE, FOLDER, f'{OUT}/target', '-j1')}/web.wasm"
-    except machines.fast.Failed as why:
+    except machines.by_cargo.Failed as why:
         yield "build", str(why)
         return
     yield from in_node(wasm)

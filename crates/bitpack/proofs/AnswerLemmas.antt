@@ -20,7 +20,7 @@ use Rattle.bitpack.specs.Answers.{IsAnswer, IsReplied, IsReply, Passed, Prints, 
 use Rattle.bitpack_lists.specs.Older.{older_fault}
 use Rattle.bitpack_lists.specs.Version2.{fault2}
 use Rattle.bitpack.specs.Laws.{OneAnswer}
-use Rattle.bitpack.specs.Lines.{kept_part}
+use Rattle.bitpack.specs.Lines.{line_prefix}
 use Rattle.bitpack_lists.specs.Version1.{fault1}
 use Rattle.bitpack.proofs.Finding.{Decided, Search}
 use Rattle.bitpack.proofs.Requests.{find_line, one_command}
@@ -226,10 +226,10 @@ one_answer line = let (answer, answers) = answer_of line in (answer, answers, λ
 
 -- ---- a line that is too long is answered by its first bytes
 
-same_when_long : (kept_part line answer : List ℕ) → 65536 < length kept_part → 65536 < length line → IsAnswer kept_part answer → IsAnswer line answer
+same_when_long : (line_prefix line answer : List ℕ) → 65536 < length line_prefix → 65536 < length line → IsAnswer line_prefix answer → IsAnswer line answer
 unfolding IsAnswer
-same_when_long kept_part line answer long_held long (Refused fault is) = Refused long is
-same_when_long kept_part line answer long_held long (Passed short replies) = absurd (short long_held)
+same_when_long line_prefix line answer long_prefix long (Refused fault is) = Refused long is
+same_when_long line_prefix line answer long_prefix long (Passed short replies) = absurd (short long_prefix)
 
 first_bytes : (n : ℕ) (line answer : List ℕ) → n ≡ 65537 → IsAnswer (take n line) answer → IsAnswer line answer
 first_bytes n line answer is answers = elim (cases_lt 65536 (length line)) [
@@ -237,7 +237,7 @@ first_bytes n line answer is answers = elim (cases_lt 65536 (length line)) [
   | inr short ↦ subst (λ l. IsAnswer l answer) (take_all n line (omega arith)) answers
 ]
 
--- the answer to the kept part of a line is the answer to the line
-pub answer-kept_part : (line answer : List ℕ) → IsAnswer (kept_part line) answer → IsAnswer line answer
-unfolding kept_part
-answer-kept_part line answer = first_bytes 65537 line answer refl
+-- the answer to the prefix of a line is the answer to the line
+pub answer-line_prefix : (line answer : List ℕ) → IsAnswer (line_prefix line) answer → IsAnswer line answer
+unfolding line_prefix
+answer-line_prefix line answer = first_bytes 65537 line answer refl

@@ -31,8 +31,8 @@ abbrev pub Decided : Type 0 → Type 0
 Decided P = P ⊎ (P → ⊥)
 
 from_test : (P : Type 0) (test : Bool) → (test ≡ true → P) → (P → test ≡ true) → Decided P
-from_test P true holds tests = inl (holds refl)
-from_test P false holds tests = inr (λ p. let e = tests p in cc)
+from_test P true fact tests = inl (fact refl)
+from_test P false fact tests = inr (λ p. let e = tests p in cc)
 
 pub same_string : (a b : List ℕ) → Decided (a ≡ b)
 same_string a b = let decides = bytes_eq-Decides a b in from_test (a ≡ b) (bytes_eq a b) decides.0 decides.1
@@ -44,7 +44,7 @@ both (inr no_p) q = inr (λ h. no_p h.0)
 
 -- only one value can have the fact, and it is known whether it has it
 pub only : {Y : Type 0} (P : Y → Type 0) (y : Y) → Decided (P y) → ((z : Y) → P z → z ≡ y) → Search P
-only P y (inl holds) one = (Some y, holds)
+only P y (inl fact) one = (Some y, fact)
 only P y (inr fails) one = (None, λ z h. fails (subst P (one z h) h))
 
 -- ---- numbers

@@ -13,7 +13,7 @@ use Rattle.bitpack_lists.specs.Search.{first_at_least}
 use Rattle.bitpack_lists.specs.Version1.{List1, fault1}
 use Rattle.bitpack_lists.specs.Version2.{List2, fault2}
 use Rattle.bitpack.specs.Answers.{PrintsBytes, RefusedFor, RepliesToList, printed_bytes, printed_found, printed_list, refused, sought}
-use Rattle.bitpack_lists.proofs.ForCallers.{AreBytes-nil, header_bytes, no_fault2, one_list1, one_list2, one_text1, text_from_none, text_of}
+use Rattle.bitpack_lists.proofs.ForCallers.{AreBytes-nil, encoding_from_none, encoding_of, header_bytes, no_fault2, one_encoding1, one_list1, one_list2}
 
 -- ---- bytes
 
@@ -29,13 +29,13 @@ AreBytes-spelled string (byte ∷ bytes) spelled =
 pub encoded_of : (lanes : ℕ) (kind : ListKind) (values : List ℕ) → 1 ≤ lanes → lanes < 2 ^ 8 → AreWords values → length values ≤ 2 ^ 28
     → (answer : List ℕ) × PrintsBytes (List1 lanes kind values) answer
 encoded_of lanes kind values some few words short =
-    let (later, small, blocks, are_bytes, list) = text_of lanes kind values some few words short in
-    let text : List ℕ = header 1 kind lanes (length values) ++ later in
-    (printed_bytes text, record { thing = text; fact = (are_bytes, list); answer_is = refl })
+    let (later, small, blocks, are_bytes, list) = encoding_of lanes kind values some few words short in
+    let encoding : List ℕ = header 1 kind lanes (length values) ++ later in
+    (printed_bytes encoding, record { thing = encoding; fact = (are_bytes, list); answer_is = refl })
 
 pub same_encoded : (lanes : ℕ) (kind : ListKind) (values a b : List ℕ) → 1 ≤ lanes → PrintsBytes (List1 lanes kind values) a → PrintsBytes (List1 lanes kind values) b → a ≡ b
 same_encoded lanes kind values a b some first second =
-    let bytes = one_text1 lanes kind values second.thing first.thing some second.fact.0 first.fact.0 second.fact.1 first.fact.1 in
+    let bytes = one_encoding1 lanes kind values second.thing first.thing some second.fact.0 first.fact.0 second.fact.1 first.fact.1 in
     first.answer_is ∙ ap printed_bytes bytes ∙ sym second.answer_is
 
 -- ---- the answer to `dec`
@@ -48,16 +48,16 @@ IsReplyAt lanes bytes fault = RefusedFor fault (RepliesToList (λ kind values. L
 decoded_at : (lanes : ℕ) (bytes : List ℕ) (fault : Option ListError)
     → (fault ≡ None → (kind : ListKind) × (values : List ℕ) × (List1 lanes kind values bytes ⊎ List2 lanes kind values bytes))
     → (answer : List ℕ) × IsReplyAt lanes bytes fault answer
-decoded_at lanes bytes (Some fault) text = (refused (20 + number_of fault), refl)
-decoded_at lanes bytes None text =
-    let (kind, values, list) = text refl in
+decoded_at lanes bytes (Some fault) encoding = (refused (20 + number_of fault), refl)
+decoded_at lanes bytes None encoding =
+    let (kind, values, list) = encoding refl in
     (printed_list kind values, record { kind = kind; values = values; list = list; reply = refl })
 
 decoded_by : (lanes : ℕ) (bytes : List ℕ) (second : Bool) → 1 ≤ lanes → AreBytes bytes
     → (answer : List ℕ) × IsReplyAt lanes bytes (if second then fault2 lanes bytes else fault1 lanes bytes) answer
 decoded_by lanes bytes false some small =
     decoded_at lanes bytes (fault1 lanes bytes) (λ none.
-    let (kind, values, list) = text_from_none lanes bytes some small none in (kind, values, inl list))
+    let (kind, values, list) = encoding_from_none lanes bytes some small none in (kind, values, inl list))
 decoded_by lanes bytes true some small =
     decoded_at lanes bytes (fault2 lanes bytes) (λ none.
     let (kind, values, list) = (no_fault2 lanes bytes some small).0 none in (kind, values, inr list))
@@ -104,9 +104,9 @@ sought_of lanes target bytes some small = by_fault (fault2 lanes bytes) (no_faul
   where
     by_fault : (fault : Option ListError) → (fault ≡ None → (kind : ListKind) × (values : List ℕ) × List2 lanes kind values bytes)
         → (answer : List ℕ) × IsFoundAt lanes target bytes fault answer
-    by_fault (Some fault) text = (refused (20 + number_of fault), refl)
-    by_fault None text =
-        let (kind, values, list) = text refl in
+    by_fault (Some fault) encoding = (refused (20 + number_of fault), refl)
+    by_fault None encoding =
+        let (kind, values, list) = encoding refl in
         (sought kind values target, record { kind = kind; values = values; list = list; reply = refl })
 
 pub same_sought : (lanes target : ℕ) (bytes : List ℕ) (fault : Option ListError) (a b : List ℕ) → 1 ≤ lanes → AreBytes bytes

@@ -4,10 +4,10 @@ use Rattle.std.specs.Fmt.{decimal}
 use Rattle.std.proofs.lemmas.List.{take_more}
 use Rattle.bitpack.specs.Answers.{printed_values}
 use Rattle.bitpack.specs.Lines.{AppendsBeginning, AppendsBut}
-use Rattle.bitpack.proofs.HeldBytes.{begin-more, but-more, but-part}
+use Rattle.bitpack.proofs.BufferedBytes.{begin-more, but-more, but-part}
 use Rattle.bitpack.proofs.PrintedValues.{printed_values-begin, printed_values-push}
 
--- `before` was held first, and then the values were put
+-- `before` was buffered first, and then the values were put
 module _ (a : Option (List ℕ)) (before : List ℕ) (value : ℕ) (values : List ℕ) where
   abbrev so_far : ℕ → List ℕ
   so_far i = before ++ printed_values (value ∷ take i values)
@@ -27,14 +27,14 @@ module _ (a : Option (List ℕ)) (before : List ℕ) (value : ℕ) (values : Lis
       append_assoc before (printed_values (value ∷ take i values)) rest ∙ ap (λ l. before ++ l) (sym split ∙ ap (λ l. printed_values (value ∷ l)) (take-append-drop i values)) in
       subst (AppendsBeginning a b) all (begin-more a b (so_far i) rest part)
 
-  module _ (b : Option (List ℕ)) (i : ℕ) (held : List ℕ) (lt : i < length values) (first : AppendsBut a b (so_far i) held) where
-    pub comma_part : (c : Option (List ℕ)) → AppendsBeginning b c (held ++ 44 ∷ []) → AppendsBeginning a c (before ++ printed_values (value ∷ values))
+  module _ (b : Option (List ℕ)) (i : ℕ) (buffered : List ℕ) (lt : i < length values) (first : AppendsBut a b (so_far i) buffered) where
+    pub comma_part : (c : Option (List ℕ)) → AppendsBeginning b c (buffered ++ 44 ∷ []) → AppendsBeginning a c (before ++ printed_values (value ∷ values))
     comma_part c part =
-        values_part c (i + 1) (subst (AppendsBeginning a c) (one_more i lt) (begin-more a c (so_far i ++ 44 ∷ []) (decimal (get_or values i 0)) (but-part a b c (so_far i) held first (44 ∷ []) part)))
+        values_part c (i + 1) (subst (AppendsBeginning a c) (one_more i lt) (begin-more a c (so_far i ++ 44 ∷ []) (decimal (get_or values i 0)) (but-part a b c (so_far i) buffered first (44 ∷ []) part)))
 
-    module _ (c : Option (List ℕ)) (next : List ℕ) (comma : AppendsBut b c (held ++ 44 ∷ []) next) (d : Option (List ℕ)) where
+    module _ (c : Option (List ℕ)) (next : List ℕ) (comma : AppendsBut b c (buffered ++ 44 ∷ []) next) (d : Option (List ℕ)) where
       both : AppendsBut a c (so_far i ++ 44 ∷ []) next
-      both = but-more a b c (so_far i) held first (44 ∷ []) next comma
+      both = but-more a b c (so_far i) buffered first (44 ∷ []) next comma
 
       pub value_part : AppendsBeginning c d (next ++ decimal (get_or values i 0)) → AppendsBeginning a d (before ++ printed_values (value ∷ values))
       value_part part =

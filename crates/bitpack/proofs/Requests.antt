@@ -77,13 +77,13 @@ list_of None = []
 
 module _ (P : List ℕ → Type 0) (one : (a b : List ℕ) → P a → P b → a ≡ b) where
   is_found : (search : Search P) (list : List ℕ) → P list → list ≡ list_of search.0
-  is_found (Some found, holds) list also = one list found also holds
+  is_found (Some found, fact) list also = one list found also fact
   is_found (None, none) list also = absurd (none list also)
 
   is_spelled : (search : Search P) (list : List ℕ) → Decided (P list)
-  is_spelled (Some found, holds) list = elim (same_string list found) [
-    | inl same ↦ inl (subst P (sym same) holds)
-    | inr other ↦ inr (λ also. other (one list found also holds))
+  is_spelled (Some found, fact) list = elim (same_string list found) [
+    | inl same ↦ inl (subst P (sym same) fact)
+    | inr other ↦ inr (λ also. other (one list found also fact))
   ]
   is_spelled (None, none) list = inr (none list)
 
@@ -227,5 +227,5 @@ pub fails_at : {Z W : Type 0} (verb : List ℕ) (strings : List (List ℕ)) (see
     → r ≡ Err e → Parses seen Q (Err e) → (SpellsRequest verb strings (read_request verb strings) → (w : W) × Q w) → Parses request_of (SpellsRequest verb strings) r
 fails_at verb strings seen Q r e is none back =
     passes_on request_of (SpellsRequest verb strings) seen Q r e is none (λ nothing request spelled.
-    let (w, holds) = back (subst (SpellsRequest verb strings) (request_is verb strings request spelled) spelled) in
-    nothing w holds)
+    let (w, fact) = back (subst (SpellsRequest verb strings) (request_is verb strings request spelled) spelled) in
+    nothing w fact)

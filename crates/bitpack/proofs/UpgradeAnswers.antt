@@ -9,7 +9,7 @@ use Rattle.bitpack_lists.specs.declared.list_error.ListError.TheVariants.{Memory
 use Rattle.bitpack_lists.specs.Parts.{number_of}
 use Rattle.bitpack_lists.specs.Version1.{List1, fault1}
 use Rattle.bitpack_lists.specs.Version2.{List2, first_out}
-use Rattle.bitpack_lists.proofs.ForCallers.{one_list1, one_text2, text_from_none, text_of2}
+use Rattle.bitpack_lists.proofs.ForCallers.{encoding_from_none, encoding_of2, one_encoding2, one_list1}
 use Rattle.bitpack.specs.Answers.{IsUpgraded, PrintsBytes, RefusedFor, RepliesToList, printed_bytes, refused}
 
 -- the answer to `upgrade` of these bytes, whose first fault this is
@@ -22,23 +22,23 @@ IsOrderedAt lanes kind values out = RefusedFor (option_map NotSorted out) (Print
 
 -- ---- there is one
 
-ordered_at : (lanes : ℕ) (kind : ListKind) (values : List ℕ) (out : Option ℕ) → (out ≡ None → (text : List ℕ) × AreBytes text × List2 lanes kind values text)
+ordered_at : (lanes : ℕ) (kind : ListKind) (values : List ℕ) (out : Option ℕ) → (out ≡ None → (encoding : List ℕ) × AreBytes encoding × List2 lanes kind values encoding)
     → (answer : List ℕ) × IsOrderedAt lanes kind values out answer
-ordered_at lanes kind values (Some position) text = (refused (20 + number_of (NotSorted position)), refl)
-ordered_at lanes kind values None text =
-    let (bytes, small, list) = text refl in
+ordered_at lanes kind values (Some position) encoding = (refused (20 + number_of (NotSorted position)), refl)
+ordered_at lanes kind values None encoding =
+    let (bytes, small, list) = encoding refl in
     (printed_bytes bytes, record { thing = bytes; fact = (small, list); answer_is = refl })
 
 upgraded_at : (lanes : ℕ) (bytes : List ℕ) (fault : Option ListError) → 1 ≤ lanes → lanes < 2 ^ 8
     → (fault ≡ None → (kind : ListKind) × (values : List ℕ) × List1 lanes kind values bytes) → (answer : List ℕ) × IsUpgradedAt lanes bytes fault answer
-upgraded_at lanes bytes (Some fault) some few text = (refused (20 + number_of fault), refl)
-upgraded_at lanes bytes None some few text =
-    let (kind, values, list) = text refl in
-    let (answer, upgraded) = ordered_at lanes kind values (first_out kind values) (λ ordered. text_of2 lanes kind values some list.words list.begins.few few ordered) in
+upgraded_at lanes bytes (Some fault) some few encoding = (refused (20 + number_of fault), refl)
+upgraded_at lanes bytes None some few encoding =
+    let (kind, values, list) = encoding refl in
+    let (answer, upgraded) = ordered_at lanes kind values (first_out kind values) (λ ordered. encoding_of2 lanes kind values some list.words list.begins.few few ordered) in
     (answer, record { kind = kind; values = values; list = list; reply = upgraded })
 
 pub upgraded_of : (lanes : ℕ) (bytes : List ℕ) → 1 ≤ lanes → lanes < 2 ^ 8 → AreBytes bytes → (answer : List ℕ) × IsUpgradedAt lanes bytes (fault1 lanes bytes) answer
-upgraded_of lanes bytes some few small = upgraded_at lanes bytes (fault1 lanes bytes) some few (text_from_none lanes bytes some small)
+upgraded_of lanes bytes some few small = upgraded_at lanes bytes (fault1 lanes bytes) some few (encoding_from_none lanes bytes some small)
 
 -- ---- there is no other
 
@@ -46,7 +46,7 @@ same_ordered : (lanes : ℕ) (kind : ListKind) (values : List ℕ) (out : Option
     → IsOrderedAt lanes kind values out a → IsOrderedAt lanes kind values out b → a ≡ b
 same_ordered lanes kind values (Some position) a b some is_a is_b = is_a ∙ sym is_b
 same_ordered lanes kind values None a b some first second =
-    let bytes = one_text2 lanes kind values second.thing first.thing some second.fact.0 first.fact.0 second.fact.1 first.fact.1 in
+    let bytes = one_encoding2 lanes kind values second.thing first.thing some second.fact.0 first.fact.0 second.fact.1 first.fact.1 in
     first.answer_is ∙ ap printed_bytes bytes ∙ sym second.answer_is
 
 pub same_upgraded : (lanes : ℕ) (bytes : List ℕ) (fault : Option ListError) (a b : List ℕ) → 1 ≤ lanes
@@ -78,12 +78,12 @@ module _ (lanes : ℕ) (bytes answer : List ℕ) (error : ListError) (other : ¬
       → MatchOption fault ⊤ Refuses
       → ((kind : ListKind) (values : List ℕ) → List1 lanes kind values bytes → MatchOption (first_out kind values) (error ≡ Memory) (λ position. Refuses (NotSorted position)))
       → IsUpgradedAt lanes bytes fault answer
-  refused_at (Some fault) text same order = refused_as fault same
-  refused_at None text none order =
-      let (kind, values, list) = text refl in
+  refused_at (Some fault) encoding same order = refused_as fault same
+  refused_at None encoding none order =
+      let (kind, values, list) = encoding refl in
       record { kind = kind; values = values; list = list; reply = out_at kind values (first_out kind values) (order kind values list) }
 
   pub upgraded_err : 1 ≤ lanes → AreBytes bytes → MatchOption (fault1 lanes bytes) ⊤ Refuses
       → ((kind : ListKind) (values : List ℕ) → List1 lanes kind values bytes → MatchOption (first_out kind values) (error ≡ Memory) (λ position. Refuses (NotSorted position)))
       → IsUpgradedAt lanes bytes (fault1 lanes bytes) answer
-  upgraded_err some small = refused_at (fault1 lanes bytes) (text_from_none lanes bytes some small)
+  upgraded_err some small = refused_at (fault1 lanes bytes) (encoding_from_none lanes bytes some small)

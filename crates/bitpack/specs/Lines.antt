@@ -27,8 +27,8 @@ unfoldable pub unfinished : List ℕ → List ℕ
 unfinished bytes = concat (drop (count_by is_feed bytes) (lines bytes))
 
 -- the part of a line that is in memory: at most one byte more than a line may have
-unfoldable pub kept_part : List ℕ → List ℕ
-kept_part line = take (line_limit + 1) line
+unfoldable pub line_prefix : List ℕ → List ℕ
+line_prefix line = take (line_limit + 1) line
 
 -- ---- their answers
 
@@ -75,11 +75,11 @@ AnswersInPart left rest old new = (input : List ℕ) × Consumes left rest input
 abbrev pub AnswersFirst : Option (List ℕ) → Option (List ℕ) → Option (List ℕ) → Option (List ℕ) → Type 0
 AnswersFirst left rest old new = (input : List ℕ) × Consumes left rest input × AppendsAnswersFirst old new (lines input)
 
--- ---- partway: some bytes are held, and written later
+-- ---- partway: some bytes are buffered, and written later
 
--- known bytes grow by `all` but for its end, which is held
+-- known bytes grow by `all` but for its end, which is buffered
 abbrev pub AppendsBut : Option (List ℕ) → Option (List ℕ) → List ℕ → List ℕ → Type 0
-AppendsBut old new all held = (some : List ℕ) × (all ≡ some ++ held) × Appends old new some
+AppendsBut old new all buffered = (some : List ℕ) × (all ≡ some ++ buffered) × Appends old new some
 
 -- a failed write leaves a beginning of `all`; if memory ran out, the known bytes grow by `whole`; and no read failed
 abbrev pub StopsAfter : RunError → Option (List ℕ) → Option (List ℕ) → List ℕ → List ℕ → Type 0
@@ -87,7 +87,7 @@ StopsAfter Write old new whole all = AppendsBeginning old new all
 StopsAfter Memory old new whole all = Appends old new whole
 StopsAfter Read old new whole all = ⊥
 
--- the answer to a line is after the bytes that were held
+-- the answer to a line is after the bytes that were buffered
 abbrev pub AppendsAnswer : Option (List ℕ) → Option (List ℕ) → List ℕ → List ℕ → List ℕ → Type 0
 AppendsAnswer old new before after line = (answer : List ℕ) × IsAnswer line answer × AppendsBut old new (before ++ (answer ++ 10 ∷ [])) after
 
@@ -95,16 +95,16 @@ AppendsAnswer old new before after line = (answer : List ℕ) × IsAnswer line a
 abbrev pub StopsAtAnswer : RunError → Option (List ℕ) → Option (List ℕ) → List ℕ → List ℕ → Type 0
 StopsAtAnswer fault old new before line = (answer : List ℕ) × IsAnswer line answer × StopsAfter fault old new before (before ++ (answer ++ 10 ∷ []))
 
--- of the input so far, the lines that ended were answered, and the end of their answers is held; `kept` is the part of the
+-- of the input so far, the lines that ended were answered, and the end of their answers is buffered; `prefix` is the beginning of the
 -- unfinished line
-pub record AnsweredSoFar (before now : Option (List ℕ)) (held input kept : List ℕ) : Type 0 where
+pub record AnsweredSoFar (before now : Option (List ℕ)) (buffered input prefix : List ℕ) : Type 0 where
   pub bytes : List ℕ
   pub answered : AreAnswers (ended input) bytes
-  pub written : AppendsBut before now bytes held
-  pub begun : kept ≡ kept_part (unfinished input)
+  pub written : AppendsBut before now bytes buffered
+  pub started : prefix ≡ line_prefix (unfinished input)
 
 -- the answers to the lines were stopped by a fault
-abbrev pub StopsAmong : RunError → Option (List ℕ) → Option (List ℕ) → List (List ℕ) → Type 0
-StopsAmong Write before new lines = AppendsAnswersInPart before new lines
-StopsAmong Memory before new lines = AppendsAnswersFirst before new lines
-StopsAmong Read before new lines = ⊥
+abbrev pub StopsWithin : RunError → Option (List ℕ) → Option (List ℕ) → List (List ℕ) → Type 0
+StopsWithin Write before new lines = AppendsAnswersInPart before new lines
+StopsWithin Memory before new lines = AppendsAnswersFirst before new lines
+StopsWithin Read before new lines = ⊥

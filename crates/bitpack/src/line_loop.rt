@@ -1,7 +1,7 @@
 //! The loop that reads lines and writes their answers.
 
 ghost use Rattle.std.specs.Prelude.{◌≡◌, ◌≢◌, ℕ, Option, List, [], ◌∷◌, ◌++◌, OnOk, IfErr, IfSome, IsErrOf};
-ghost use Rattle.bitpack.specs.Lines.{AnsweredSoFar, AnswersAll, AnswersEnded, AnswersFirst, AnswersInPart, AppendsAnswers, StopsAmong, kept_part, lines};
+ghost use Rattle.bitpack.specs.Lines.{AnsweredSoFar, AnswersAll, AnswersEnded, AnswersFirst, AnswersInPart, AppendsAnswers, StopsWithin, line_prefix, lines};
 
 use super::answer::answer_line;
 use super::line::LINE_LIMIT;
@@ -16,8 +16,8 @@ const PIECE: usize = 65_536;
 
 /// Appends a byte to the line. A line that is too long has one byte more than the limit; its further bytes are dropped.
 fn push_byte(line: &mut Vec<u8>, byte: u8) -> Result<(), AllocError>
-    ensures { (begun : List ℕ) → line.old.items ≡ kept_part begun
-        → OnOk result (line.new.items ≡ kept_part (begun ++ byte ∷ [])) }
+    ensures { (started : List ℕ) → line.old.items ≡ line_prefix started
+        → OnOk result (line.new.items ≡ line_prefix (started ++ byte ∷ [])) }
 {
     if line.len() <= LINE_LIMIT {
         line.push(byte)?;
@@ -38,7 +38,7 @@ fn handle_byte<W: Write>(
         → OnOk result (AnsweredSoFar before (W.contents writer.new) output.new (input ++ byte ∷ []) line.new.items) }
     ensures err { (before : Option (List ℕ)) (input rest : List ℕ)
         → AnsweredSoFar before (W.contents writer.old) output.old input line.old.items
-        → IfErr result (λ e. StopsAmong e before (W.contents writer.new) (lines (input ++ byte ∷ rest))) }
+        → IfErr result (λ e. StopsWithin e before (W.contents writer.new) (lines (input ++ byte ∷ rest))) }
 {
     if byte == b'\n' {
         answer_line(alloc, line.as_slice(), output, writer)?;
@@ -64,7 +64,7 @@ fn handle_bytes<W: Write>(
         → OnOk result (AnsweredSoFar before (W.contents writer.new) output.new (input ++ bytes.now) line.new.items) }
     ensures err { (before : Option (List ℕ)) (input : List ℕ)
         → AnsweredSoFar before (W.contents writer.old) output.old input line.old.items
-        → IfErr result (λ e. StopsAmong e before (W.contents writer.new) (lines (input ++ bytes.now))) }
+        → IfErr result (λ e. StopsWithin e before (W.contents writer.new) (lines (input ++ bytes.now))) }
     ensures empty { OnOk result (output.new ≡ []) }
 {
     for byte in bytes {
@@ -85,7 +85,7 @@ fn answer_last<W: Write>(
         → OnOk result (AppendsAnswers before (W.contents writer.new) (lines input)) }
     ensures err { (before : Option (List ℕ)) (input : List ℕ)
         → AnsweredSoFar before (W.contents writer.old) output.old input line.now
-        → IfErr result (λ e. StopsAmong e before (W.contents writer.new) (lines input)) }
+        → IfErr result (λ e. StopsWithin e before (W.contents writer.new) (lines input)) }
 {
     if line.is_empty() {
         return output.write_out(writer);

@@ -9,10 +9,10 @@ use super::writing::write_all;
 use std::io::Write;
 use std::marker::Model;
 
-/// The most bytes that are held.
+/// The most bytes that are buffered.
 const ROOM: usize = 65_536;
 
-/// The bytes that are held. It allocates only for these.
+/// The bytes that are buffered. It allocates only for these.
 #[derive(Drop)]
 pub(crate) struct Output {
     bytes: [u8; ROOM],
@@ -37,7 +37,7 @@ impl Output {
         }
     }
 
-    /// Writes the bytes that are held.
+    /// Writes the bytes that are buffered.
     pub(crate) fn write_out<W: Write>(&mut self, writer: &mut W) -> Result<(), RunError>
         ensures empty { OnOk result (self.new ≡ []) }
         ensures ok { OnOk result (Appends (W.contents writer.old) (W.contents writer.new) self.old) }
@@ -50,7 +50,7 @@ impl Output {
         Ok(())
     }
 
-    /// Writes the bytes that are held, since memory ran out. If that fails, it is a failed write that ends the run.
+    /// Writes the bytes that are buffered, since memory ran out. If that fails, it is a failed write that ends the run.
     pub(crate) fn end_without_memory<W: Write>(&mut self, writer: &mut W) -> RunError
         ensures { StopsAfter result (W.contents writer.old) (W.contents writer.new) self.old self.old }
     {
@@ -60,7 +60,7 @@ impl Output {
         }
     }
 
-    /// Puts bytes after the ones that are held. If there is no room, all held bytes are written first.
+    /// Puts bytes after the ones that are buffered. If there is no room, all buffered bytes are written first.
     pub(crate) fn put<W: Write>(&mut self, writer: &mut W, bytes: &[u8]) -> Result<(), RunError>
         ensures ok { OnOk result
             (AppendsBut (W.contents writer.old) (W.contents writer.new) (self.old ++ bytes.now) self.new) }
@@ -69,19 +69,19 @@ impl Output {
         ensures kind { IfErr result (λ e. e ≡ RunError.Write) }
     {
         if bytes.len() <= ROOM - self.len {
-            self.hold(bytes);
+            self.buffer(bytes);
             return Ok(());
         }
         self.write_out(writer)?;
         if bytes.len() <= ROOM {
-            self.hold(bytes);
+            self.buffer(bytes);
             return Ok(());
         }
         write_all(writer, bytes)
     }
 
-    /// Holds bytes that there is room for.
-    fn hold(&mut self, bytes: &[u8])
+    /// Buffers bytes that there is room for.
+    fn buffer(&mut self, bytes: &[u8])
         requires room { length self.old + length bytes.now ≤ 65536 }
         ensures { self.new ≡ self.old ++ bytes.now }
     {

@@ -1,11 +1,11 @@
--- The text of the blocks of a column and of packed ones after them.
+-- The encoding of the blocks of a column and of packed ones after them.
 use Rattle.std.proofs.Common.{◌≡◌, ℕ, ◌+◌, ◌*◌, ◌/◌, List, [], ◌∷◌, ◌++◌, length, get_or, refl, sym, ap, ◌∙◌, arith}
 use Rattle.bitpack_columns.specs.declared.column.Column.{Column}
-use Rattle.bitpack_columns.specs.Columns.{blocks_text, sum_to}
-use Rattle.bitpack_columns.specs.Measured.{IsMeasured, bodies_text, ends_text, extended, marks_text, packed_after, width_after}
+use Rattle.bitpack_columns.specs.Columns.{blocks_encoding, sum_to}
+use Rattle.bitpack_columns.specs.Measured.{IsMeasured, bodies_encoding, ends_encoding, extended, marks_encoding, packed_after, width_after}
 use Rattle.bitpack_columns.specs.Numbers.{byte_count}
 use Rattle.bitpack_columns.specs.Opened.{blocks_of, values}
-use Rattle.bitpack_columns.proofs.KeptLaws.{bodies_first, ends_first, first_kept, head_of, kept_split, marks_first, sum_first}
+use Rattle.bitpack_columns.proofs.CopiedLaws.{bodies_first, copied_split, ends_first, first_copied, head_of, marks_first, sum_first}
 use Rattle.bitpack_columns.proofs.SplitLaws.{IsSplit, bodies_split, ends_split, marks_split, sum_back}
 use Rattle.bitpack_columns.proofs.WriteLaws.{blocks_filled, blocks_room}
 
@@ -16,12 +16,12 @@ module _ (column : Column) (packed : List ℕ) (total most after : ℕ)
   first = get_or (extended column packed) 0 0
 
   is_split : IsSplit column.kind first (values column) packed (extended column packed) (blocks_of column) (packed_after column packed)
-  is_split = kept_split column packed
+  is_split = copied_split column packed
 
   sum_same : sum_to (width_after column.kind (head_of column) (values column)) (blocks_of column) ≡ sum_to (width_after column.kind first (values column)) (blocks_of column)
-  sum_same = sum_first column.kind (values column) (blocks_of column) (head_of column) first refl (first_kept column packed)
+  sum_same = sum_first column.kind (values column) (blocks_of column) (head_of column) first refl (first_copied column packed)
 
-  pub after_room : length (blocks_text column.kind (extended column packed)) ≡ 1 + end_size * blocks + mark_size * blocks + 16 * total
+  pub after_room : length (blocks_encoding column.kind (extended column packed)) ≡ 1 + end_size * blocks + mark_size * blocks + 16 * total
   after_room =
       blocks_room column.kind (extended column packed) total most after end_size mark_size measured end_is mark_is
       ∙ ap (λ (n : ℕ). 1 + end_size * n + mark_size * n + 16 * total) (is_split.blocks_are ∙ sym blocks_are)
@@ -34,24 +34,24 @@ module _ (column : Column) (packed : List ℕ) (total most after : ℕ)
       ∙ ap (λ (n : ℕ). n + sum_to (width_after column.kind (packed_after column packed) packed) (length packed / 128)) (sym sum_same)
 
   pub after_filled : (sizes ends more_ends marks more_marks bodies more_bodies : List ℕ) → sizes ≡ (end_size + 16 * mark_size) ∷ []
-      → ends ≡ ends_text column.kind (head_of column) (values column) end_size 0
-      → more_ends ≡ ends_text column.kind (packed_after column packed) packed end_size (sum_to (width_after column.kind (head_of column) (values column)) (blocks_of column))
-      → marks ≡ marks_text column.kind (head_of column) (values column) mark_size → more_marks ≡ marks_text column.kind (packed_after column packed) packed mark_size
-      → bodies ≡ bodies_text column.kind (head_of column) (values column) → more_bodies ≡ bodies_text column.kind (packed_after column packed) packed
-      → sizes ++ ((ends ++ more_ends) ++ ((marks ++ more_marks) ++ (bodies ++ more_bodies))) ≡ blocks_text column.kind (extended column packed)
+      → ends ≡ ends_encoding column.kind (head_of column) (values column) end_size 0
+      → more_ends ≡ ends_encoding column.kind (packed_after column packed) packed end_size (sum_to (width_after column.kind (head_of column) (values column)) (blocks_of column))
+      → marks ≡ marks_encoding column.kind (head_of column) (values column) mark_size → more_marks ≡ marks_encoding column.kind (packed_after column packed) packed mark_size
+      → bodies ≡ bodies_encoding column.kind (head_of column) (values column) → more_bodies ≡ bodies_encoding column.kind (packed_after column packed) packed
+      → sizes ++ ((ends ++ more_ends) ++ ((marks ++ more_marks) ++ (bodies ++ more_bodies))) ≡ blocks_encoding column.kind (extended column packed)
   after_filled sizes ends more_ends marks more_marks bodies more_bodies a b c d e f g =
       let all : List ℕ = extended column packed in
       let last : ℕ = packed_after column packed in
       let k : ℕ = blocks_of column in
-      let front : ends ≡ ends_text column.kind first (values column) end_size 0 = b ∙ ends_first column.kind (values column) k (head_of column) first refl (first_kept column packed) end_size in
-      let back : bodies ≡ bodies_text column.kind first (values column) = f ∙ bodies_first column.kind (values column) k (head_of column) first refl (first_kept column packed) in
-      let ones : marks ≡ marks_text column.kind first (values column) mark_size = d ∙ marks_first column.kind (values column) k (head_of column) first refl (first_kept column packed) mark_size in
+      let front : ends ≡ ends_encoding column.kind first (values column) end_size 0 = b ∙ ends_first column.kind (values column) k (head_of column) first refl (first_copied column packed) end_size in
+      let back : bodies ≡ bodies_encoding column.kind first (values column) = f ∙ bodies_first column.kind (values column) k (head_of column) first refl (first_copied column packed) in
+      let ones : marks ≡ marks_encoding column.kind first (values column) mark_size = d ∙ marks_first column.kind (values column) k (head_of column) first refl (first_copied column packed) mark_size in
       let zero : sum_to (width_after column.kind first (values column)) k ≡ 0 + sum_to (width_after column.kind first (values column)) k = omega arith in
       blocks_filled column.kind all total most after end_size mark_size measured end_is mark_is sizes (ends ++ more_ends) (marks ++ more_marks) (bodies ++ more_bodies) a
       (ap (λ (l : List ℕ). l ++ more_ends) front
-      ∙ ap (λ (l : List ℕ). ends_text column.kind first (values column) end_size 0 ++ l) (c ∙ ap (ends_text column.kind last packed end_size) (sum_same ∙ zero))
+      ∙ ap (λ (l : List ℕ). ends_encoding column.kind first (values column) end_size 0 ++ l) (c ∙ ap (ends_encoding column.kind last packed end_size) (sum_same ∙ zero))
       ∙ sym (ends_split column.kind first (values column) packed all k last is_split end_size 0))
-      (ap (λ (l : List ℕ). l ++ more_marks) ones ∙ ap (λ (l : List ℕ). marks_text column.kind first (values column) mark_size ++ l) e
+      (ap (λ (l : List ℕ). l ++ more_marks) ones ∙ ap (λ (l : List ℕ). marks_encoding column.kind first (values column) mark_size ++ l) e
       ∙ sym (marks_split column.kind first (values column) packed all k last is_split mark_size))
-      (ap (λ (l : List ℕ). l ++ more_bodies) back ∙ ap (λ (l : List ℕ). bodies_text column.kind first (values column) ++ l) g
+      (ap (λ (l : List ℕ). l ++ more_bodies) back ∙ ap (λ (l : List ℕ). bodies_encoding column.kind first (values column) ++ l) g
       ∙ sym (bodies_split column.kind first (values column) packed all k last is_split))

@@ -48,9 +48,9 @@ joined_bit f (suc n) m h lt =
 
 -- ---- the bits of a block
 
-bit_placed : (width k j : ℕ) (codes : List ℕ) → j < width → body_bit width codes (place 4 width k j) ≡ bit_at (get_or codes k 0) j
+bit_at_place : (width k j : ℕ) (codes : List ℕ) → j < width → body_bit width codes (place 4 width k j) ≡ bit_at (get_or codes k 0) j
 unfolding place
-bit_placed width k j codes h =
+bit_at_place width k j codes h =
     let q : ℕ = k / 4 * width + j in
     let t : ℕ = 32 * (4 * (q / 32) + k % 4) + q % 32 in
     let row : 32 * (t / 128) + t % 32 ≡ q = omega arith in
@@ -104,7 +104,7 @@ block_layout width codes long fits = record {
   code_count = long;
   byte_count = block_len width codes ∙ sized width;
   fits = fits;
-  bits = λ k j hk hj. sym (packed_bit width codes (place 4 width k j) (place_within width k j (omega arith) hj) ∙ bit_placed width k j codes hj);
+  bits = λ k j hk hj. sym (packed_bit width codes (place 4 width k j) (place_within width k j (omega arith) hj) ∙ bit_at_place width k j codes hj);
 }
   where
     sized : (w : ℕ) → 16 * w ≡ 4 * 4 * w
@@ -124,7 +124,7 @@ block_codes width codes long fits =
     sym (only codes (block_layout width codes long fits))
 
 -- and bytes are the block of the codes that are read from them
-pub block_text : (width : ℕ) (bytes : List ℕ) → AreBytes bytes → length bytes ≡ 16 * width → packed_block width (codes_of 4 width bytes) ≡ bytes
-block_text width bytes are long =
+pub block_encoding : (width : ℕ) (bytes : List ℕ) → AreBytes bytes → length bytes ≡ 16 * width → packed_block width (codes_of 4 width bytes) ≡ bytes
+block_encoding width bytes are long =
     let (layout, only) = one_layout_codes 4 width bytes (long ∙ omega arith) in
     sym (layout_block width (codes_of 4 width bytes) bytes are layout)

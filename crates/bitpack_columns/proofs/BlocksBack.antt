@@ -9,7 +9,7 @@ use Rattle.bitpacking.specs.Layout.{codes_of}
 use Rattle.bitpack_groups.proofs.ForCallers.{AreBytes-append, AreBytes-cons, count_some, little_bytes}
 use Rattle.bitpack_columns.specs.declared.column_kind.ColumnKind.{ColumnKind}
 use Rattle.bitpack_columns.specs.declared.column_kind.ColumnKind.TheVariants.{Sorted}
-use Rattle.bitpack_columns.specs.Columns.{IsColumn, base_of, block_of, blocks_text, codes_in, end_bytes, end_in, mark_bytes, mark_in, packed_block, sum_to, width_in}
+use Rattle.bitpack_columns.specs.Columns.{IsColumn, base_of, block_of, blocks_encoding, codes_in, end_bytes, end_in, mark_bytes, mark_in, packed_block, sum_to, width_in}
 use Rattle.bitpack_columns.specs.Reads.{begin_at, block_values, bodies_start, body_at, codes_at, end_at, end_size, mark_at, mark_size, tail_at, tail_start, values_of, width_at}
 use Rattle.bitpack_columns.proofs.BlockFacts.{base_below, block_words, codes_long, end_fits, mark_fits, width_least}
 use Rattle.bitpack_columns.proofs.BlockLaws.{block_bytes, block_codes, block_len}
@@ -26,7 +26,7 @@ module _ (kind : ColumnKind) (values more : List ℕ) (is : IsColumn kind values
 
   -- the blocks, and what is after them
   abbrev pub rest : List ℕ
-  rest = blocks_text kind values ++ more
+  rest = blocks_encoding kind values ++ more
 
   abbrev e : ℕ
   e = end_bytes kind values
@@ -47,7 +47,7 @@ module _ (kind : ColumnKind) (values more : List ℕ) (is : IsColumn kind values
   bodies = run body count
 
   pub parts_are : rest ≡ (e + 16 * z) ∷ (ends ++ (marks ++ (bodies ++ more)))
-  unfolding blocks_text
+  unfolding blocks_encoding
   parts_are = ap (λ (l : List ℕ). (e + 16 * z) ∷ l) (regrouped ends marks bodies more)
 
   pub some_bytes : 1 ≤ length rest

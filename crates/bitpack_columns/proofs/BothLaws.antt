@@ -1,9 +1,9 @@
--- A filled block and later values: their sizes, their widths and their texts.
+-- A filled block and later values: their sizes, their widths and their encodings.
 use Rattle.std.proofs.Common.{◌≡◌, ℕ, ◌+◌, ◌*◌, ◌/◌, ◌<◌, List, ◌++◌, length, get_or, take, sym, ap, ◌∙◌, arith}
 use Rattle.std.proofs.lemmas.List.{get_or-take}
 use Rattle.bitpack_columns.specs.declared.column_kind.ColumnKind.{ColumnKind}
 use Rattle.bitpack_columns.specs.Columns.{sum_to}
-use Rattle.bitpack_columns.specs.Measured.{AreWidths, bodies_text, ends_text, marks_text, width_after}
+use Rattle.bitpack_columns.specs.Measured.{AreWidths, bodies_encoding, ends_encoding, marks_encoding, width_after}
 use Rattle.bitpack_columns.proofs.SplitLaws.{IsSplit, bodies_split, ends_split, filled_split, marks_split, sum_back, width_front}
 use Rattle.bitpack_columns.proofs.SumLaws.{sum_more, sum_none}
 
@@ -44,23 +44,23 @@ module _ (kind : ColumnKind) (before : ℕ) (filled later : List ℕ) (long : le
       → get_or one 0 0 ≡ width_after kind before filled 0
   taken_width widths one e cached some = ap (λ (l : List ℕ). get_or l 0 0) e ∙ get_or-take 1 widths 0 0 (omega arith) ∙ first_width widths cached some
 
-  -- the texts, end to end
-  pub both_ends : (size start width : ℕ) (one more : List ℕ) → width ≡ width_after kind before filled 0 → one ≡ ends_text kind before filled size start
-      → more ≡ ends_text kind (get_or filled 127 0) later size (start + width) → one ++ more ≡ ends_text kind before (filled ++ later) size start
+  -- the encodings, end to end
+  pub both_ends : (size start width : ℕ) (one more : List ℕ) → width ≡ width_after kind before filled 0 → one ≡ ends_encoding kind before filled size start
+      → more ≡ ends_encoding kind (get_or filled 127 0) later size (start + width) → one ++ more ≡ ends_encoding kind before (filled ++ later) size start
   both_ends size start width one more w a b =
       ap (λ (l : List ℕ). l ++ more) a
-      ∙ ap (λ (l : List ℕ). ends_text kind before filled size start ++ l)
-      (b ∙ ap (λ (n : ℕ). ends_text kind (get_or filled 127 0) later size (start + n)) (w ∙ sym (one_more (width_after kind before filled))))
+      ∙ ap (λ (l : List ℕ). ends_encoding kind before filled size start ++ l)
+      (b ∙ ap (λ (n : ℕ). ends_encoding kind (get_or filled 127 0) later size (start + n)) (w ∙ sym (one_more (width_after kind before filled))))
       ∙ sym (ends_split kind before filled later (filled ++ later) 1 (get_or filled 127 0) is_split size start)
 
-  pub both_marks : (size : ℕ) (one more : List ℕ) → one ≡ marks_text kind before filled size → more ≡ marks_text kind (get_or filled 127 0) later size
-      → one ++ more ≡ marks_text kind before (filled ++ later) size
+  pub both_marks : (size : ℕ) (one more : List ℕ) → one ≡ marks_encoding kind before filled size → more ≡ marks_encoding kind (get_or filled 127 0) later size
+      → one ++ more ≡ marks_encoding kind before (filled ++ later) size
   both_marks size one more a b =
-      ap (λ (l : List ℕ). l ++ more) a ∙ ap (λ (l : List ℕ). marks_text kind before filled size ++ l) b
+      ap (λ (l : List ℕ). l ++ more) a ∙ ap (λ (l : List ℕ). marks_encoding kind before filled size ++ l) b
       ∙ sym (marks_split kind before filled later (filled ++ later) 1 (get_or filled 127 0) is_split size)
 
-  pub both_bodies : (one more : List ℕ) → one ≡ bodies_text kind before filled → more ≡ bodies_text kind (get_or filled 127 0) later
-      → one ++ more ≡ bodies_text kind before (filled ++ later)
+  pub both_bodies : (one more : List ℕ) → one ≡ bodies_encoding kind before filled → more ≡ bodies_encoding kind (get_or filled 127 0) later
+      → one ++ more ≡ bodies_encoding kind before (filled ++ later)
   both_bodies one more a b =
-      ap (λ (l : List ℕ). l ++ more) a ∙ ap (λ (l : List ℕ). bodies_text kind before filled ++ l) b
+      ap (λ (l : List ℕ). l ++ more) a ∙ ap (λ (l : List ℕ). bodies_encoding kind before filled ++ l) b
       ∙ sym (bodies_split kind before filled later (filled ++ later) 1 (get_or filled 127 0) is_split)

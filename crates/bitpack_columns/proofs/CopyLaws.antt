@@ -84,9 +84,9 @@ block_written values out part block room long before e =
     ∙ ap (λ n. take n values) (sym next)
 
 pub on_err : {A E P : Type 0} (result : Result A E) → is_err result ≡ true → OnErr result P → P
-on_err (Ok x) e holds = absurd cc
-on_err (Err x) e holds = holds
+on_err (Ok x) e fact = absurd cc
+on_err (Err x) e fact = fact
 
 pub on_ok : {A E P : Type 0} (result : Result A E) → is_err result ≡ false → OnOk result P → P
-on_ok (Ok x) e holds = holds
-on_ok (Err x) e holds = absurd cc
+on_ok (Ok x) e fact = fact
+on_ok (Err x) e fact = absurd cc

@@ -3,9 +3,9 @@ use Rattle.std.proofs.Common.{◌≡◌, ℕ, zero, suc, ◌+◌, ◌-◌, ◌/�
 use Rattle.std.proofs.lemmas.Bool.{cases_lt, le-leb, lt-leb}
 use Rattle.std.proofs.lemmas.List.{length-append}
 use Rattle.bitpack_columns.specs.declared.column.Column.{Column}
-use Rattle.bitpack_columns.specs.Counted.{is_untold}
+use Rattle.bitpack_columns.specs.Counted.{is_undecided}
 use Rattle.bitpack_columns.specs.Opened.{blocks_of}
-use Rattle.bitpack_columns.specs.Searches.{greatest_in, least_in, told}
+use Rattle.bitpack_columns.specs.Searches.{decided, greatest_in, least_in}
 use Rattle.bitpack_columns.proofs.RangeLaws.{passing, passing_split}
 
 -- Half of what is left has a digit less.
@@ -41,15 +41,15 @@ module _ (test : ℕ → Bool) where
   pub passed_one : (at : ℕ) → test at ≡ true → passed at 1 ≡ 1
   passed_one at passes = ap (λ b. length (cond b (at ∷ []) [])) passes
 
--- ---- blocks that are not settled
+-- ---- blocks that are not decided
 
--- A block of which nothing is told is one that may be unpacked.
-pub untold_one : (column : Column) (low high block : ℕ) (answer : Option Bool)
-    → (block < blocks_of column → answer ≡ told low high (least_in column block) (greatest_in column block)) → answer ≡ None
-    → passed (is_untold column low high) block 1 ≡ 1
-untold_one column low high block answer tells none = passed_one (is_untold column low high) block (elim (cases_lt block (blocks_of column)) [
+-- A block of which nothing is decided is one that may be unpacked.
+pub undecided_one : (column : Column) (low high block : ℕ) (answer : Option Bool)
+    → (block < blocks_of column → answer ≡ decided low high (least_in column block) (greatest_in column block)) → answer ≡ None
+    → passed (is_undecided column low high) block 1 ≡ 1
+undecided_one column low high block answer decides none = passed_one (is_undecided column low high) block (elim (cases_lt block (blocks_of column)) [
   | inl inside ↦
-      let nothing : is_none (told low high (least_in column block) (greatest_in column block)) ≡ true = ap is_none (sym (tells inside) ∙ none) in
+      let nothing : is_none (decided low high (least_in column block) (greatest_in column block)) ≡ true = ap is_none (sym (decides inside) ∙ none) in
       rw (lt-leb (blocks_of column) block inside) nothing
   | inr tail ↦ rw (le-leb (blocks_of column) block tail) refl
 ])

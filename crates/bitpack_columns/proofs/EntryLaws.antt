@@ -9,30 +9,30 @@ use Rattle.bitpacking.specs.Codes.{AreWords}
 use Rattle.bitpack_columns.specs.declared.column_kind.ColumnKind.{ColumnKind}
 use Rattle.bitpack_columns.specs.declared.column_kind.ColumnKind.TheVariants.{Sorted}
 use Rattle.bitpack_columns.specs.Columns.{base_of, block_of, codes, mark_in, mark_of, packed_block, sum_to}
-use Rattle.bitpack_columns.specs.Measured.{AreWidths, base_after, bodies_text, codes_after, ends_text, marks_text, width_after}
+use Rattle.bitpack_columns.specs.Measured.{AreWidths, base_after, bodies_encoding, codes_after, ends_encoding, marks_encoding, width_after}
 use Rattle.bitpack_columns.proofs.BlockLaws.{block_len}
 use Rattle.bitpack_columns.proofs.MeasureLaws.{base_here, total_few, width_here, width_narrow}
 use Rattle.bitpack_columns.proofs.PartsLaws.{run, run_len, run_more}
 use Rattle.bitpack_columns.proofs.SumLaws.{sum_more, sum_none, sum_up}
 
 module _ (kind : ColumnKind) (before : ℕ) (values : List ℕ) where
-  abbrev pub end_text : ℕ → ℕ → ℕ → List ℕ
-  end_text size start m = le_bytes size (start + sum_to (width_after kind before values) (suc m))
+  abbrev pub end_encoding : ℕ → ℕ → ℕ → List ℕ
+  end_encoding size start m = le_bytes size (start + sum_to (width_after kind before values) (suc m))
 
-  abbrev pub mark_text : ℕ → ℕ → List ℕ
-  mark_text size m = le_bytes size (mark_in kind values m)
+  abbrev pub mark_encoding : ℕ → ℕ → List ℕ
+  mark_encoding size m = le_bytes size (mark_in kind values m)
 
-  abbrev pub body_text : ℕ → List ℕ
-  body_text m = packed_block (width_after kind before values m) (codes_after kind before values m)
+  abbrev pub body_encoding : ℕ → List ℕ
+  body_encoding m = packed_block (width_after kind before values m) (codes_after kind before values m)
 
 -- the blocks so far are written
 pub record WrittenTo (kind : ColumnKind) (before : ℕ) (values : List ℕ) (start end_size mark_size i at end last : ℕ) (ends marks bodies : List ℕ) : Type 0 where
   pub ends_len : length ends ≡ end_size * (length values / 128)
   pub marks_len : length marks ≡ mark_size * (length values / 128)
   pub bodies_len : length bodies ≡ 16 * sum_to (width_after kind before values) (length values / 128)
-  pub ends_are : take (end_size * i) ends ≡ run (end_text kind before values end_size start) i
-  pub marks_are : take (mark_size * i) marks ≡ run (mark_text kind before values mark_size) i
-  pub bodies_are : take at bodies ≡ run (body_text kind before values) i
+  pub ends_are : take (end_size * i) ends ≡ run (end_encoding kind before values end_size start) i
+  pub marks_are : take (mark_size * i) marks ≡ run (mark_encoding kind before values mark_size) i
+  pub bodies_are : take at bodies ≡ run (body_encoding kind before values) i
   pub at_is : at ≡ 16 * sum_to (width_after kind before values) i
   pub end_is : end ≡ start + sum_to (width_after kind before values) i
   pub last_is : kind ≡ Sorted → last ≡ base_of Sorted before (mark_in Sorted values) i
@@ -106,7 +106,7 @@ module _ (kind : ColumnKind) (before : ℕ) (values : List ℕ) (start end_size 
       let e = so_far.end_is in
       let base : base_after kind last mark ≡ base_of kind before (mark_in kind values) i =
       ap (base_after kind last) mark_is ∙ base_here kind before last i values so_far.last_is in
-      let body : new ≡ body_text kind before values i =
+      let body : new ≡ body_encoding kind before values i =
       body_new ∙ ap (λ (k : ℕ). packed_block k (codes kind (base_after kind last mark) (block_of i values))) w
       ∙ ap (λ (b : ℕ). packed_block (width_after kind before values i) (codes kind b (block_of i values))) base in
       let size : length new ≡ 16 * width = ap length body ∙ block_len (width_after kind before values i) (codes_after kind before values i) ∙ ap (λ (k : ℕ). 16 * k) (sym w) in
@@ -117,14 +117,14 @@ module _ (kind : ColumnKind) (before : ℕ) (values : List ℕ) (start end_size 
         marks_len = marks_long ∙ so_far.marks_len;
         bodies_len = length-written at (16 * width) bodies new (omega arith) size room ∙ so_far.bodies_len;
         ends_are = ends_new ∙ ap (λ (l : List ℕ). l ++ le_bytes end_size (end + width)) so_far.ends_are
-            ∙ ap (λ (k : ℕ). run (end_text kind before values end_size start) i ++ le_bytes end_size k) end_here
-            ∙ sym (run_more (end_text kind before values end_size start) i) ∙ ap (run (end_text kind before values end_size start)) (sym n);
+            ∙ ap (λ (k : ℕ). run (end_encoding kind before values end_size start) i ++ le_bytes end_size k) end_here
+            ∙ sym (run_more (end_encoding kind before values end_size start) i) ∙ ap (run (end_encoding kind before values end_size start)) (sym n);
         marks_are = marks_new ∙ ap (λ (l : List ℕ). l ++ le_bytes mark_size mark) so_far.marks_are
-            ∙ ap (λ (k : ℕ). run (mark_text kind before values mark_size) i ++ le_bytes mark_size k) mark_is
-            ∙ sym (run_more (mark_text kind before values mark_size) i) ∙ ap (run (mark_text kind before values mark_size)) (sym n);
+            ∙ ap (λ (k : ℕ). run (mark_encoding kind before values mark_size) i ++ le_bytes mark_size k) mark_is
+            ∙ sym (run_more (mark_encoding kind before values mark_size) i) ∙ ap (run (mark_encoding kind before values mark_size)) (sym n);
         bodies_are = take-put_mid at (16 * width) bodies new (at + 16 * width) (ap (λ (k : ℕ). at + k) (sym size)) (omega arith)
-            ∙ ap (λ (l : List ℕ). take at bodies ++ l) body ∙ ap (λ (l : List ℕ). l ++ body_text kind before values i) so_far.bodies_are
-            ∙ sym (run_more (body_text kind before values) i) ∙ ap (run (body_text kind before values)) (sym n);
+            ∙ ap (λ (l : List ℕ). take at bodies ++ l) body ∙ ap (λ (l : List ℕ). l ++ body_encoding kind before values i) so_far.bodies_are
+            ∙ sym (run_more (body_encoding kind before values) i) ∙ ap (run (body_encoding kind before values)) (sym n);
         at_is = omega arith;
         end_is = omega arith;
         last_is = λ is. mark_is ∙ ap (λ (k : ColumnKind). mark_of k (block_of i values)) is ∙ ap (base_of Sorted before (mark_in Sorted values)) (sym n);
@@ -132,32 +132,32 @@ module _ (kind : ColumnKind) (before : ℕ) (values : List ℕ) (start end_size 
 
 pub written_done : (kind : ColumnKind) (before : ℕ) (values : List ℕ) (start end_size mark_size i at end last : ℕ) (ends marks bodies : List ℕ)
     → WrittenTo kind before values start end_size mark_size i at end last ends marks bodies → i ≡ length values / 128
-    → (ends ≡ ends_text kind before values end_size start) × (marks ≡ marks_text kind before values mark_size) × (bodies ≡ bodies_text kind before values)
-unfolding ends_text marks_text bodies_text
+    → (ends ≡ ends_encoding kind before values end_size start) × (marks ≡ marks_encoding kind before values mark_size) × (bodies ≡ bodies_encoding kind before values)
+unfolding ends_encoding marks_encoding bodies_encoding
 written_done kind before values start end_size mark_size i at end last ends marks bodies all e = (
-  sym (take_all (end_size * i) ends (omega (arith, all.ends_len, ap (λ (k : ℕ). end_size * k) e))) ∙ all.ends_are ∙ ap (run (end_text kind before values end_size start)) e,
-  sym (take_all (mark_size * i) marks (omega (arith, all.marks_len, ap (λ (k : ℕ). mark_size * k) e))) ∙ all.marks_are ∙ ap (run (mark_text kind before values mark_size)) e,
-  sym (take_all at bodies (omega (arith, all.bodies_len, all.at_is, ap (sum_to (width_after kind before values)) e))) ∙ all.bodies_are ∙ ap (run (body_text kind before values)) e,
+  sym (take_all (end_size * i) ends (omega (arith, all.ends_len, ap (λ (k : ℕ). end_size * k) e))) ∙ all.ends_are ∙ ap (run (end_encoding kind before values end_size start)) e,
+  sym (take_all (mark_size * i) marks (omega (arith, all.marks_len, ap (λ (k : ℕ). mark_size * k) e))) ∙ all.marks_are ∙ ap (run (mark_encoding kind before values mark_size)) e,
+  sym (take_all at bodies (omega (arith, all.bodies_len, all.at_is, ap (sum_to (width_after kind before values)) e))) ∙ all.bodies_are ∙ ap (run (body_encoding kind before values)) e,
 )
 
 -- ---- how long they are
 
-pub ends_long : (kind : ColumnKind) (before : ℕ) (values : List ℕ) (size start : ℕ) → length (ends_text kind before values size start) ≡ size * (length values / 128)
-unfolding ends_text
+pub ends_long : (kind : ColumnKind) (before : ℕ) (values : List ℕ) (size start : ℕ) → length (ends_encoding kind before values size start) ≡ size * (length values / 128)
+unfolding ends_encoding
 ends_long kind before values size start =
-    run_len (end_text kind before values size start) (λ m. size * m) (length values / 128)
+    run_len (end_encoding kind before values size start) (λ m. size * m) (length values / 128)
     (record { first = omega arith; next = λ m h. (let n : m + 1 ≡ suc m = omega arith in ap (λ (k : ℕ). size * k) (sym n) ∙ sym (product_more size m) ∙ ap (λ (k : ℕ). size * m + k) (sym (little_len size (start + sum_to (width_after kind before values) (suc m))))) })
 
-pub marks_long : (kind : ColumnKind) (before : ℕ) (values : List ℕ) (size : ℕ) → length (marks_text kind before values size) ≡ size * (length values / 128)
-unfolding marks_text
+pub marks_long : (kind : ColumnKind) (before : ℕ) (values : List ℕ) (size : ℕ) → length (marks_encoding kind before values size) ≡ size * (length values / 128)
+unfolding marks_encoding
 marks_long kind before values size =
-    run_len (mark_text kind before values size) (λ m. size * m) (length values / 128)
+    run_len (mark_encoding kind before values size) (λ m. size * m) (length values / 128)
     (record { first = omega arith; next = λ m h. (let n : m + 1 ≡ suc m = omega arith in ap (λ (k : ℕ). size * k) (sym n) ∙ sym (product_more size m) ∙ ap (λ (k : ℕ). size * m + k) (sym (little_len size (mark_in kind values m)))) })
 
-pub bodies_long : (kind : ColumnKind) (before : ℕ) (values : List ℕ) → length (bodies_text kind before values) ≡ 16 * sum_to (width_after kind before values) (length values / 128)
-unfolding bodies_text
+pub bodies_long : (kind : ColumnKind) (before : ℕ) (values : List ℕ) → length (bodies_encoding kind before values) ≡ 16 * sum_to (width_after kind before values) (length values / 128)
+unfolding bodies_encoding
 bodies_long kind before values =
-    run_len (body_text kind before values) (λ m. 16 * sum_to (width_after kind before values) m) (length values / 128)
+    run_len (body_encoding kind before values) (λ m. 16 * sum_to (width_after kind before values) m) (length values / 128)
     (record {
       first = omega (arith, sum_none (width_after kind before values));
       next = λ m h. omega (arith, sum_more (width_after kind before values) m, block_len (width_after kind before values m) (codes_after kind before values m));

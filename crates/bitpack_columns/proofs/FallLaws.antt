@@ -156,9 +156,9 @@ pushed_falls before count [] pushed e right none some =
     first_is (x ∷ xs) = one_more 0 0 x xs (omega arith) ∙ sym (one_more 0 x x xs (omega arith))
 pushed_falls before count (x ∷ xs) pushed e right none some =
     let last : last_of x (x ∷ xs) ≡ before = last_at x (x ∷ xs) (omega arith) ∙ sym (some (omega arith)) in
-    let place : 0 + length (x ∷ xs) ≡ count = omega arith in
+    let count_is : 0 + length (x ∷ xs) ≡ count = omega arith in
     sym (fall_after 0 x (x ∷ xs) pushed (sym (out_is (x ∷ xs)) ∙ right)
-    ∙ ap (λ (k : ℕ). first_below k (last_of x (x ∷ xs)) pushed) place ∙ ap (λ (k : ℕ). first_below count k pushed) last)
+    ∙ ap (λ (k : ℕ). first_below k (last_of x (x ∷ xs)) pushed) count_is ∙ ap (λ (k : ℕ). first_below count k pushed) last)
 
 -- ---- narrow codes
 

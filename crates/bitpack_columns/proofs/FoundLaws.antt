@@ -48,7 +48,7 @@ module _ (low high : ℕ) (values : List ℕ) (start : ℕ) where
               ∙ sym (passing_same test start index (ap within own ∙ fails)) ∙ sym (moved (index + 1));
         }
 
-    -- Eight values more have these marks.
+    -- Eight values more have these matches.
     pub found_eight : (bits : ℕ) (more : List ℕ) → ones_in bits ≡ passing (λ k. is_between low high (get_or values (index + k) 0)) 0 8
         → take (next + length (ones_in bits)) more ≡ take next found ++ map (λ k. start + index + k) (ones_in bits)
         → HasFound low high values start (index + 8) (next + length (ones_in bits)) more

@@ -7,7 +7,7 @@ use Rattle.bitpack_groups.proofs.ForCallers.{number_reads_back}
 use Rattle.bitpacking.specs.Codes.{AreWords}
 use Rattle.bitpack_columns.specs.declared.column_kind.ColumnKind.{ColumnKind}
 use Rattle.bitpack_columns.specs.declared.column_kind.ColumnKind.TheVariants.{Plain, Sorted}
-use Rattle.bitpack_columns.specs.Columns.{first_text, header_text, kind_bit}
+use Rattle.bitpack_columns.specs.Columns.{first_encoding, header_encoding, kind_bit}
 use Rattle.bitpack_columns.specs.Faults.{header_fault}
 use Rattle.bitpack_columns.specs.Numbers.{count_fault, number, number_end, number_fault, number_value, of}
 use Rattle.bitpack_columns.specs.Stated.{after_count, count_in, first_in, has_first, is_few, kind_in, rest_in}
@@ -77,15 +77,15 @@ counted n byte after small e = elim (cases_lt n 31) [
 ]
 
 -- of the first value
-record IsBegun (kind : ColumnKind) (values after more : List ℕ) : Type 0 where
+record IsStarted (kind : ColumnKind) (values after more : List ℕ) : Type 0 where
   none : cond (has_first kind (length values)) (of (number_fault after)) None ≡ None
   first_is : kind ≡ Sorted → cond (has_first kind (length values)) (number_value after) 0 ≡ get_or values 0 0
   rest_is : cond (has_first kind (length values)) (drop (number_end after) after) after ≡ more
 
-begun : (kind : ColumnKind) (values more : List ℕ) → AreWords values → IsBegun kind values (first_text kind values ++ more) more
-begun Plain values more words = record { none = refl; first_is = λ e. absurd cc; rest_is = refl }
-begun Sorted [] more words = record { none = refl; first_is = λ e. refl; rest_is = refl }
-begun Sorted (x ∷ xs) more words =
+started : (kind : ColumnKind) (values more : List ℕ) → AreWords values → IsStarted kind values (first_encoding kind values ++ more) more
+started Plain values more words = record { none = refl; first_is = λ e. absurd cc; rest_is = refl }
+started Sorted [] more words = record { none = refl; first_is = λ e. refl; rest_is = refl }
+started Sorted (x ∷ xs) more words =
     let after : List ℕ = number x ++ more in
     let has : has_first Sorted (suc (length xs)) ≡ true = lt-ltb 0 (suc (length xs)) (omega arith) in
     let (sound, value, end) = number_reads_back x more (word_at (x ∷ xs) 0 words) in
@@ -95,18 +95,18 @@ begun Sorted (x ∷ xs) more words =
       rest_is = ap (λ (b : Bool). cond b (drop (number_end after) after) after) has ∙ drop_at (number x) more (number_end after) (sym end);
     }
 
-pub header_is : (kind : ColumnKind) (values more : List ℕ) → length values ≤ 2 ^ 28 → AreWords values → IsStated kind values (header_text kind values ++ more) more
-unfolding header_text header_fault
+pub header_is : (kind : ColumnKind) (values more : List ℕ) → length values ≤ 2 ^ 28 → AreWords values → IsStated kind values (header_encoding kind values ++ more) more
+unfolding header_encoding header_fault
 header_is kind values more small words =
     let n : ℕ = length values in
     let byte : ℕ = 64 + 32 * kind_bit kind + min n 31 in
-    let after : List ℕ = first_text kind values ++ more in
+    let after : List ℕ = first_encoding kind values ++ more in
     let bytes : List ℕ = byte ∷ (cond (ltb n 31) [] (number n) ++ after) in
-    let e : header_text kind values ++ more ≡ bytes = ap (λ (l : List ℕ). byte ∷ l) (append_assoc (cond (ltb n 31) [] (number n)) (first_text kind values) more) in
+    let e : header_encoding kind values ++ more ≡ bytes = ap (λ (l : List ℕ). byte ∷ l) (append_assoc (cond (ltb n 31) [] (number n)) (first_encoding kind values) more) in
     let few : min n 31 ≤ 31 = omega arith in
     let range = byte_range kind (min n 31) few in
     let count = counted n byte after small (byte_count kind (min n 31) few) in
-    let first = begun kind values more words in
+    let first = started kind values more words in
     let kind' : kind_in bytes ≡ kind = byte_kind kind (min n 31) few in
     let has : has_first (kind_in bytes) (count_in bytes) ≡ has_first kind n = ap (λ (k : ColumnKind). has_first k (count_in bytes)) kind' ∙ ap (has_first kind) count.count_is in
     subst (λ (l : List ℕ). IsStated kind values l more) (sym e)

@@ -104,12 +104,12 @@ module _ (base : ℕ) (codes : List ℕ) (small : base < 2 ^ 32) (words : AreWor
       (omega arith, omega arith)
 
   -- as a test of the bounds of the codes tells it
-  pub least_told : (low high : ℕ) (result : Bool) → low ≡ least codes → high ≡ greatest (get_or_0 codes) (length codes)
+  pub least_decided : (low high : ℕ) (result : Bool) → low ≡ least codes → high ≡ greatest (get_or_0 codes) (length codes)
       → Decides result ((low ≡ 0) × (base + high < 2 ^ 32)) → eqb (least values) base ≡ result
-  least_told low high true low_is high_is tells = let both = rw (low_is, high_is) at (tells.0 refl) in eq-eqb (least values) base (base_least both.0 both.1)
-  least_told low high false low_is high_is tells = ne_eqb (least values) base (λ e.
+  least_decided low high true low_is high_is decides = let both = rw (low_is, high_is) at (decides.0 refl) in eq-eqb (least values) base (base_least both.0 both.1)
+  least_decided low high false low_is high_is decides = ne_eqb (least values) base (λ e.
       let both : (low ≡ 0) × (base + high < 2 ^ 32) = rw (low_is, high_is) (least_base e) in
-      let clash : false ≡ true = tells.1 both in
+      let clash : false ≡ true = decides.1 both in
       absurd cc)
 
 -- ---- the greatest, and totals

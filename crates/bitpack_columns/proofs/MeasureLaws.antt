@@ -117,7 +117,7 @@ pub record MeasuredTo (kind : ColumnKind) (before : ℕ) (values : List ℕ) (i 
   pub bound : total ≤ 32 * i
   pub most_is : most ≡ greatest (mark_in kind values) i
   pub last_is : kind ≡ Sorted → last ≡ base_of Sorted before (mark_in Sorted values) i
-  pub kept : (m : ℕ) → m < i → m < length widths → get_or widths m 0 ≡ width_after kind before values m
+  pub cached : (m : ℕ) → m < i → m < length widths → get_or widths m 0 ≡ width_after kind before values m
   pub none : rises ≡ true → kind ≡ Sorted → first_below 0 before (take (128 * i) values) ≡ None
 
 pub measured_start : (kind : ColumnKind) (before : ℕ) (values widths : List ℕ) → MeasuredTo kind before values 0 0 0 before widths true
@@ -127,7 +127,7 @@ measured_start kind before values widths = record {
   bound = omega arith;
   most_is = refl;
   last_is = λ _. refl;
-  kept = λ m lt within. absurd (omega arith);
+  cached = λ m lt within. absurd (omega arith);
   none = λ _ _. refl;
 }
 
@@ -171,8 +171,8 @@ measured_more kind before values i total most last widths rises so_far le mark w
       bound = omega arith;
       most_is = ap (λ (k : ℕ). max k mark) so_far.most_is ∙ ap (max (greatest (mark_in kind values) i)) mark_is ∙ ap (greatest (mark_in kind values)) (sym n);
       last_is = λ is. mark_is ∙ ap (λ (k : ColumnKind). mark_of k (block_of i values)) is ∙ ap (base_of Sorted before (mark_in Sorted values)) (sym n);
-      kept = λ m lt within. elim (cases_lt m i) [
-        | inl earlier ↦ caches.other m earlier ∙ so_far.kept m earlier (omega (arith, caches.len, within))
+      cached = λ m lt within. elim (cases_lt m i) [
+        | inl earlier ↦ caches.other m earlier ∙ so_far.cached m earlier (omega (arith, caches.len, within))
         | inr later ↦
             let same : m ≡ i = omega arith in
             ap (λ (k : ℕ). get_or new k 0) same ∙ caches.here (omega (arith, caches.len, within, same)) ∙ width'
@@ -197,6 +197,6 @@ measured_done kind before values i total most last widths rises all e = (
     most_is = all.most_is ∙ ap (greatest (mark_in kind values)) e;
     last_is = λ is. all.last_is is ∙ ap (base_of Sorted before (mark_in Sorted values)) e;
   },
-  record { each = λ m lt within. all.kept m (omega arith) within },
+  record { each = λ m lt within. all.cached m (omega arith) within },
   λ yes. rises_is kind before values (λ is. ap (λ (k : ℕ). first_below 0 before (take (128 * k) values)) (sym e) ∙ all.none yes is),
 )

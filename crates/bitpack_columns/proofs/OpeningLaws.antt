@@ -10,7 +10,7 @@ use Rattle.bitpack_columns.specs.declared.column_kind.ColumnKind.{ColumnKind}
 use Rattle.bitpack_columns.specs.declared.column_kind.ColumnKind.TheVariants.{Plain, Sorted}
 use Rattle.bitpack_columns.specs.declared.column_error.ColumnError.{ColumnError}
 use Rattle.bitpack_columns.specs.declared.column_error.ColumnError.TheVariants.{BadLast, BadOffset, LooseWidth}
-use Rattle.bitpack_columns.specs.Columns.{IsColumn, base_of, mark_of, text}
+use Rattle.bitpack_columns.specs.Columns.{IsColumn, base_of, encoding, mark_of}
 use Rattle.bitpack_columns.specs.Faults.{body_fault, end_fault, first_of, first_out, sizes_fault}
 use Rattle.bitpack_columns.specs.Numbers.{are_loose}
 use Rattle.bitpack_columns.specs.Opening.{HasBodies, base_in, codes_fault, front_values, out_from}
@@ -20,7 +20,7 @@ use Rattle.bitpack_columns.specs.Stated.{values_in}
 use Rattle.bitpack_columns.proofs.OutLaws.{last_of, last_of-append, last_of-at, out-append, sums_last}
 use Rattle.bitpack_columns.proofs.ReadLaws.{length-block_values, length-parts}
 use Rattle.bitpack_columns.proofs.SoundLaws.{body_right, first_of-none, sizes_right}
-use Rattle.bitpack_columns.proofs.TextLaws.{values_are_read}
+use Rattle.bitpack_columns.proofs.EncodingLaws.{values_are_read}
 
 -- ---- the first fault
 
@@ -172,11 +172,11 @@ before_is Sorted first blocks rest m before none is e =
 -- ---- a block
 
 -- the fault of a block by its two tests
-pub codes_told : (kind : ColumnKind) (block width mark base : ℕ) (codes : List ℕ) (loose right : Bool) → are_loose width codes ≡ loose
+pub codes_decided : (kind : ColumnKind) (block width mark base : ℕ) (codes : List ℕ) (loose right : Bool) → are_loose width codes ≡ loose
     → eqb (mark_of kind (values_of kind base codes)) mark ≡ right
     → codes_fault kind block width mark base codes ≡ cond loose (Some (LooseWidth block width)) (cond right None (Some (BadLast block)))
 unfolding codes_fault
-codes_told kind block width mark base codes loose right e f = rw (e, f) refl
+codes_decided kind block width mark base codes loose right e f = rw (e, f) refl
 
 -- the last value of a sorted block
 pub last_is : (before total : ℕ) (codes : List ℕ) → length codes ≡ 128 → total ≡ sum codes % 2 ^ 32
@@ -234,5 +234,5 @@ codes-there blocks m at width rest codes at_is width_is is =
 -- ---- what was opened
 
 pub column_of : (bytes : List ℕ) (kind : ColumnKind) (count first : ℕ) (rest : List ℕ) → AreBytes bytes → States bytes kind count first rest
-    → IsColumn kind (values_in bytes) × (text kind (values_in bytes) ≡ bytes)
+    → IsColumn kind (values_in bytes) × (encoding kind (values_in bytes) ≡ bytes)
 column_of bytes kind count first rest small states = rw states.kind_is (values_are_read bytes small states.none)

@@ -4,7 +4,7 @@ use Rattle.std.specs.List.{flat_map, range_with_len}
 use Rattle.std.proofs.lemmas.Bool.{cases_lt}
 use Rattle.std.proofs.lemmas.List.{drop-drop, drop_at, get_or-drop, take_at}
 use Rattle.std.proofs.lemmas.Nat.{mul-le}
-use Rattle.bitpack_groups.proofs.ForCallers.{AreBytes-append, AreBytes-drop, AreBytes-nil, AreBytes-number_in, front_is, front_text, front_value, joined_same, little_len}
+use Rattle.bitpack_groups.proofs.ForCallers.{AreBytes-append, AreBytes-drop, AreBytes-nil, AreBytes-number_in, front_encoding, front_is, front_value, joined_same, little_len}
 use Rattle.bitpack_groups.specs.Numbers.{number, short_at}
 use Rattle.bitpack_groups.specs.Packed.{le_bytes}
 use Rattle.bitpacking.specs.Bits.{AreBytes}
@@ -117,13 +117,13 @@ shorts_read size f n m rest lt small =
     short_front size m bytes ∙ front_is size (f m) (drop (size * m) bytes) small part
 
 -- integers that are read are these bytes
-pub shorts_text : (size start n : ℕ) (bytes : List ℕ) → AreBytes bytes → start + size * n ≤ length bytes
+pub shorts_encoding : (size start n : ℕ) (bytes : List ℕ) → AreBytes bytes → start + size * n ≤ length bytes
     → run (λ m. le_bytes size (short_at size (drop start bytes) m)) n ≡ take (size * n) (drop start bytes)
-shorts_text size start n bytes are room =
+shorts_encoding size start n bytes are room =
     run_taken (λ m. le_bytes size (short_at size (drop start bytes) m)) (λ m. size * m) start n bytes (omega arith) (λ m lt. omega (arith, product_next size m)) (λ m lt.
     let within : start + size * m + size ≤ length bytes = omega (arith, product_next size m, mul-le size (suc m) size n (omega arith) (omega arith)) in
     let here : drop (size * m) (drop start bytes) ≡ drop (start + size * m) bytes = drop-drop (size * m) start bytes in
     let one : size ≡ size * suc m - size * m = omega (arith, product_next size m) in
     ap (le_bytes size) (short_front size m (drop start bytes) ∙ ap (front_value size) here)
-    ∙ front_text size (drop (start + size * m) bytes) (AreBytes-drop (start + size * m) bytes are) (omega (arith, length-drop (start + size * m) bytes))
+    ∙ front_encoding size (drop (start + size * m) bytes) (AreBytes-drop (start + size * m) bytes are) (omega (arith, length-drop (start + size * m) bytes))
     ∙ ap (λ (k : ℕ). take k (drop (start + size * m) bytes)) one)

@@ -4,7 +4,7 @@ use Rattle.std.proofs.lemmas.Bool.{cases_eq, eq-eqb, ne_eqb}
 use Rattle.bitpack_columns.specs.declared.column.getting.LastBlock.{LastBlock}
 use Rattle.bitpack_columns.specs.declared.reads.Reads.{Reads}
 use Rattle.bitpack_columns.specs.Counted.{begins_run}
-use Rattle.bitpack_columns.specs.Gathering.{HoldsBlock}
+use Rattle.bitpack_columns.specs.Gathering.{CachesBlock}
 use Rattle.bitpack_columns.proofs.CountedLaws.{passed, passed_one, passed_split}
 
 module _ (positions : List ℕ) where
@@ -15,9 +15,9 @@ module _ (positions : List ℕ) where
   runs_before index = passed (begins_run positions) 0 index
 
   -- at most as many blocks were unpacked for the first positions as these have runs; the block of the last of them was unpacked last, or fewer were
-  pub record AreRead (index begun last blocks : ℕ) : Type 0 where
-    pub few : blocks ≤ begun + runs_before index
-    pub held : 0 < index → (last ≡ block_at (index - 1)) ⊎ (blocks + 1 ≤ begun + runs_before index)
+  pub record AreRead (index started last blocks : ℕ) : Type 0 where
+    pub few : blocks ≤ started + runs_before index
+    pub was_cached : 0 < index → (last ≡ block_at (index - 1)) ⊎ (blocks + 1 ≤ started + runs_before index)
 
   either : (b : Bool) → (b || true) ≡ true
   either true = refl
@@ -29,8 +29,8 @@ module _ (positions : List ℕ) where
   begins_other : (index : ℕ) → (block_at index ≡ block_at (index - 1) → ⊥) → begins_run positions index ≡ true
   begins_other index other = rw (ne_eqb (block_at index) (block_at (index - 1)) other) (either _)
 
-  module _ (index begun : ℕ) (last next : LastBlock) (old new : Reads) (before : AreRead index begun last.block old.blocks)
-      (holds : HoldsBlock (block_at index) last next old new) where
+  module _ (index started : ℕ) (last next : LastBlock) (old new : Reads) (before : AreRead index started last.block old.blocks)
+      (caches : CachesBlock (block_at index) last next old new) where
     after : runs_before (index + 1) ≡ runs_before index + passed (begins_run positions) index 1
     after =
         let here : 0 + index ≡ index = omega arith in
@@ -39,41 +39,41 @@ module _ (positions : List ℕ) where
     this : index + 1 - 1 ≡ index
     this = omega arith
 
-    fresh : begins_run positions index ≡ true → AreRead (index + 1) begun next.block new.blocks
+    fresh : begins_run positions index ≡ true → AreRead (index + 1) started next.block new.blocks
     fresh begins =
         let one = passed_one (begins_run positions) index begins in
-        elim holds.once [
+        elim caches.once [
           | inl read ↦ record {
             few = omega (arith, before.few, read.1, after, one);
-            held = λ _. inl (read.0 ∙ ap block_at (sym this));
+            was_cached = λ _. inl (read.0 ∙ ap block_at (sym this));
           }
           | inr none ↦ record {
             few = omega (arith, before.few, none, after, one);
-            held = λ _. inr (omega (arith, before.few, none, after, one));
+            was_cached = λ _. inr (omega (arith, before.few, none, after, one));
           }
         ]
 
-    same : 0 < index → block_at index ≡ block_at (index - 1) → AreRead (index + 1) begun next.block new.blocks
-    same some is = elim (before.held some) [
-      | inl held ↦
-          let kept = holds.kept (held ∙ sym is) in
+    same : 0 < index → block_at index ≡ block_at (index - 1) → AreRead (index + 1) started next.block new.blocks
+    same some is = elim (before.was_cached some) [
+      | inl was_cached ↦
+          let cached = caches.cached (was_cached ∙ sym is) in
           record {
-            few = omega (arith, before.few, kept.1, after);
-            held = λ _. inl (kept.0 ∙ ap block_at (sym this));
+            few = omega (arith, before.few, cached.1, after);
+            was_cached = λ _. inl (cached.0 ∙ ap block_at (sym this));
           }
-      | inr fewer ↦ elim holds.once [
+      | inr fewer ↦ elim caches.once [
         | inl read ↦ record {
           few = omega (arith, fewer, read.1, after);
-          held = λ _. inl (read.0 ∙ ap block_at (sym this));
+          was_cached = λ _. inl (read.0 ∙ ap block_at (sym this));
         }
         | inr none ↦ record {
           few = omega (arith, before.few, none, after);
-          held = λ _. inr (omega (arith, fewer, none, after));
+          was_cached = λ _. inr (omega (arith, fewer, none, after));
         }
       ]
     ]
 
-    pub read_more : AreRead (index + 1) begun next.block new.blocks
+    pub read_more : AreRead (index + 1) started next.block new.blocks
     read_more = elim (cases_eq index 0) [
       | inl none ↦ fresh (begins_first index none)
       | inr some ↦ elim (cases_eq (block_at index) (block_at (index - 1))) [

@@ -7,10 +7,10 @@ use Rattle.bitpack_groups.specs.Packed.{le_bytes, least_width}
 use Rattle.bitpack_columns.specs.declared.column_kind.ColumnKind.{ColumnKind}
 use Rattle.bitpack_columns.specs.declared.column_kind.ColumnKind.TheVariants.{Plain, Sorted}
 use Rattle.bitpack_columns.specs.Columns.{base_of, block_of, codes, mark_in, mark_of, packed_block, sum_to}
-use Rattle.bitpack_columns.specs.Measured.{AreWidths, IsMeasured, bodies_text, codes_after, ends_text, marks_text, width_after}
+use Rattle.bitpack_columns.specs.Measured.{AreWidths, IsMeasured, bodies_encoding, codes_after, ends_encoding, marks_encoding, width_after}
 use Rattle.bitpack_columns.specs.Numbers.{greatest}
 use Rattle.bitpack_columns.proofs.CodeLaws.{base_same}
-use Rattle.bitpack_columns.proofs.EntryLaws.{body_text, end_text, mark_text}
+use Rattle.bitpack_columns.proofs.EntryLaws.{body_encoding, end_encoding, mark_encoding}
 use Rattle.bitpack_columns.proofs.PartsLaws.{run, run_more, run_same}
 use Rattle.bitpack_columns.proofs.SumLaws.{greatest_same, sum_more, sum_none, sum_same}
 
@@ -119,20 +119,20 @@ module _ (kind : ColumnKind) (first : ℕ) (values packed all : List ℕ) (k las
       let d = greatest_back j in
       ap (greatest (mark_in kind all)) (next k j) ∙ omega arith
 
-  -- the texts of the parts
+  -- the encodings of the parts
 
-  pub ends_split : (size start : ℕ) → ends_text kind first all size start
-      ≡ ends_text kind first values size start ++ ends_text kind last packed size (start + sum_to (width_after kind first values) k)
-  unfolding ends_text
+  pub ends_split : (size start : ℕ) → ends_encoding kind first all size start
+      ≡ ends_encoding kind first values size start ++ ends_encoding kind last packed size (start + sum_to (width_after kind first values) k)
+  unfolding ends_encoding
   ends_split size start =
-      let f : ℕ → List ℕ = end_text kind first all size start in
+      let f : ℕ → List ℕ = end_encoding kind first all size start in
       let j : ℕ = length packed / 128 in
       ap (run f) split.blocks_are ∙ run_split f k j
       ∙ ap (λ (l : List ℕ). l ++ run (λ i. f (k + i)) j)
-      (run_same f (end_text kind first values size start) k (λ m lt. ap (λ (n : ℕ). le_bytes size (start + n)) (sum_front (suc m) (omega arith)))
-      ∙ ap (run (end_text kind first values size start)) (sym split.values_are))
-      ∙ ap (λ (l : List ℕ). run (end_text kind first values size start) (length values / 128) ++ l)
-      (run_same (λ i. f (k + i)) (end_text kind last packed size (start + sum_to (width_after kind first values) k)) j
+      (run_same f (end_encoding kind first values size start) k (λ m lt. ap (λ (n : ℕ). le_bytes size (start + n)) (sum_front (suc m) (omega arith)))
+      ∙ ap (run (end_encoding kind first values size start)) (sym split.values_are))
+      ∙ ap (λ (l : List ℕ). run (end_encoding kind first values size start) (length values / 128) ++ l)
+      (run_same (λ i. f (k + i)) (end_encoding kind last packed size (start + sum_to (width_after kind first values) k)) j
       (λ i lt. ap (le_bytes size) (later i)))
     where
       later : (i : ℕ) → start + sum_to (width_after kind first all) (suc (k + i))
@@ -142,29 +142,29 @@ module _ (kind : ColumnKind) (first : ℕ) (values packed all : List ℕ) (k las
           let f = ap (sum_to (width_after kind first all)) (next k i) in
           omega (arith, e, f)
 
-  pub marks_split : (size : ℕ) → marks_text kind first all size ≡ marks_text kind first values size ++ marks_text kind last packed size
-  unfolding marks_text
+  pub marks_split : (size : ℕ) → marks_encoding kind first all size ≡ marks_encoding kind first values size ++ marks_encoding kind last packed size
+  unfolding marks_encoding
   marks_split size =
-      let f : ℕ → List ℕ = mark_text kind first all size in
+      let f : ℕ → List ℕ = mark_encoding kind first all size in
       let j : ℕ = length packed / 128 in
       ap (run f) split.blocks_are ∙ run_split f k j
       ∙ ap (λ (l : List ℕ). l ++ run (λ i. f (k + i)) j)
-      (run_same f (mark_text kind first values size) k (λ m lt. ap (le_bytes size) (mark_front kind first values packed all k last split m lt)) ∙ ap (run (mark_text kind first values size)) (sym split.values_are))
-      ∙ ap (λ (l : List ℕ). run (mark_text kind first values size) (length values / 128) ++ l)
-      (run_same (λ i. f (k + i)) (mark_text kind last packed size) j (λ i lt. ap (le_bytes size) (mark_back kind first values packed all k last split i)))
+      (run_same f (mark_encoding kind first values size) k (λ m lt. ap (le_bytes size) (mark_front kind first values packed all k last split m lt)) ∙ ap (run (mark_encoding kind first values size)) (sym split.values_are))
+      ∙ ap (λ (l : List ℕ). run (mark_encoding kind first values size) (length values / 128) ++ l)
+      (run_same (λ i. f (k + i)) (mark_encoding kind last packed size) j (λ i lt. ap (le_bytes size) (mark_back kind first values packed all k last split i)))
 
-  pub bodies_split : bodies_text kind first all ≡ bodies_text kind first values ++ bodies_text kind last packed
-  unfolding bodies_text
+  pub bodies_split : bodies_encoding kind first all ≡ bodies_encoding kind first values ++ bodies_encoding kind last packed
+  unfolding bodies_encoding
   bodies_split =
-      let f : ℕ → List ℕ = body_text kind first all in
+      let f : ℕ → List ℕ = body_encoding kind first all in
       let j : ℕ = length packed / 128 in
       ap (run f) split.blocks_are ∙ run_split f k j
       ∙ ap (λ (l : List ℕ). l ++ run (λ i. f (k + i)) j)
-      (run_same f (body_text kind first values) k
+      (run_same f (body_encoding kind first values) k
       (λ m lt. ap (λ (w : ℕ). packed_block w (codes_after kind first all m)) (width_front kind first values packed all k last split m lt)
-      ∙ ap (packed_block (width_after kind first values m)) (codes_front kind first values packed all k last split m lt)) ∙ ap (run (body_text kind first values)) (sym split.values_are))
-      ∙ ap (λ (l : List ℕ). run (body_text kind first values) (length values / 128) ++ l)
-      (run_same (λ i. f (k + i)) (body_text kind last packed) j
+      ∙ ap (packed_block (width_after kind first values m)) (codes_front kind first values packed all k last split m lt)) ∙ ap (run (body_encoding kind first values)) (sym split.values_are))
+      ∙ ap (λ (l : List ℕ). run (body_encoding kind first values) (length values / 128) ++ l)
+      (run_same (λ i. f (k + i)) (body_encoding kind last packed) j
       (λ i lt. ap (λ (w : ℕ). packed_block w (codes_after kind first all (k + i))) (width_back i) ∙ ap (packed_block (width_after kind last packed i)) (codes_back i)))
 
 -- the widths of all
@@ -273,9 +273,9 @@ pub one_block : (filled : List ℕ) → (length filled ≡ 0) ⊎ (length filled
 one_block filled (inl none) some = absurd (omega (arith, none, some))
 one_block filled (inr one) some = one
 
--- how many whole blocks there are with those that are kept
-pub packed_blocks : (filled later : List ℕ) (kept k : ℕ) → kept ≡ k → kept + (length filled + length later) / 128 ≡ k + length (filled ++ later) / 128
-packed_blocks filled later kept k e = omega (arith, e, length-append filled later)
+-- how many whole blocks there are with those that are copied
+pub packed_blocks : (filled later : List ℕ) (copied k : ℕ) → copied ≡ k → copied + (length filled + length later) / 128 ≡ k + length (filled ++ later) / 128
+packed_blocks filled later copied k e = omega (arith, e, length-append filled later)
 
 -- the tail and the first of more values, and the other ones
 pub repacked : (values more room filled later : List ℕ) (n taken long count : ℕ) → long ≡ count → take (long % 128 + taken) room ≡ drop n values ++ take taken more

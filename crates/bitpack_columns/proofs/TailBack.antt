@@ -15,7 +15,7 @@ use Rattle.bitpack_columns.specs.declared.column_error.ColumnError.{ColumnError}
 use Rattle.bitpack_columns.specs.declared.column_error.ColumnError.TheVariants.{BadLast, NotSorted, Trailing}
 use Rattle.bitpack_columns.specs.declared.column_kind.ColumnKind.{ColumnKind}
 use Rattle.bitpack_columns.specs.declared.column_kind.ColumnKind.TheVariants.{Plain, Sorted}
-use Rattle.bitpack_columns.specs.Columns.{IsColumn, base_of, block_of, codes, least, least_text, left_out, mark_in, tail_base, tail_of, tail_text}
+use Rattle.bitpack_columns.specs.Columns.{IsColumn, base_of, block_of, codes, least, least_encoding, left_out, mark_in, tail_base, tail_encoding, tail_of}
 use Rattle.bitpack_columns.specs.Columns as columns
 use Rattle.bitpack_columns.specs.Faults.{first_out, has_least, least_fault, least_number_fault, tail_fault}
 use Rattle.bitpack_columns.specs.Numbers.{after_groups, groups_codes, groups_fault, groups_of, number, number_end, number_fault, number_value, of}
@@ -26,7 +26,7 @@ use Rattle.bitpack_columns.proofs.NoFaults.{none_or, not_so, so}
 use Rattle.bitpack_columns.proofs.OrderLaws.{none_ordered}
 use Rattle.bitpack_columns.proofs.PartsLaws.{number_bytes, run_taken}
 use Rattle.bitpack_columns.proofs.ReadLaws.{length-values_of}
-use Rattle.bitpack_columns.proofs.TailTexts.{has_plain}
+use Rattle.bitpack_columns.proofs.TailEncodings.{has_plain}
 
 -- ---- codes that are left out
 
@@ -69,7 +69,7 @@ record IsLeast (kind : ColumnKind) (tail bytes groups : List ℕ) : Type 0 where
   value_is : has_least kind (length tail) ≡ true → number_value bytes ≡ least tail
   after : groups_at kind (length tail) bytes ≡ groups
 
-least_is : (kind : ColumnKind) (tail bytes groups : List ℕ) → bytes ≡ least_text kind tail ++ groups → IsLeast kind tail bytes groups
+least_is : (kind : ColumnKind) (tail bytes groups : List ℕ) → bytes ≡ least_encoding kind tail ++ groups → IsLeast kind tail bytes groups
 least_is Sorted tail bytes groups e = record { none = λ h. absurd (true≢false (sym h)); value_is = λ h. absurd (true≢false (sym h)); after = e }
 least_is Plain [] bytes groups e = record { none = λ h. absurd (true≢false (sym h)); value_is = λ h. absurd (true≢false (sym h)); after = e }
 least_is Plain (x ∷ xs) bytes groups e =
@@ -80,12 +80,12 @@ least_is Plain (x ∷ xs) bytes groups e =
       after = ap (λ (l : List ℕ). drop (number_end l) l) e ∙ drop_at (number (least (x ∷ xs))) groups (number_end (number (least (x ∷ xs)) ++ groups)) (sym end);
     }
 
-least_bytes : (kind : ColumnKind) (tail : List ℕ) → AreBytes (least_text kind tail)
+least_bytes : (kind : ColumnKind) (tail : List ℕ) → AreBytes (least_encoding kind tail)
 least_bytes Sorted tail = AreBytes-nil
 least_bytes Plain [] = AreBytes-nil
 least_bytes Plain (x ∷ xs) = number_bytes (least (x ∷ xs))
 
-least_len : (kind : ColumnKind) (tail : List ℕ) → length (least_text kind tail) ≤ 5
+least_len : (kind : ColumnKind) (tail : List ℕ) → length (least_encoding kind tail) ≤ 5
 least_len Sorted tail = omega arith
 least_len Plain [] = omega arith
 least_len Plain (x ∷ xs) = longest_number (least (x ∷ xs))
@@ -104,7 +104,7 @@ pub record AreTailed (kind : ColumnKind) (first : ℕ) (values rest : List ℕ) 
   pub first_is : kind ≡ Sorted → first ≡ get_or values 0 0
   pub marks : (m : ℕ) → m < length values / 128 → mark_at (length values / 128) rest m ≡ mark_in kind values m
   pub block : (m : ℕ) → m < length values / 128 → block_values kind first (length values / 128) rest m ≡ block_of m values
-  pub tail : tail_at (length values / 128) rest ≡ tail_text kind values
+  pub tail : tail_at (length values / 128) rest ≡ tail_encoding kind values
 
 module _ (kind : ColumnKind) (values : List ℕ) (words : AreWords values) where
   abbrev count : ℕ
@@ -143,12 +143,12 @@ module _ (kind : ColumnKind) (values : List ℕ) (words : AreWords values) where
   groups_long : length in_groups ≡ coded kind count left
   groups_long = length-drop out found ∙ ap (λ (n : ℕ). n - out) found_long ∙ ap (λ (n : ℕ). left - left_out kind count n) tail_long
 
-  text_is : tail_text kind values ≡ least_text kind tail ++ run_of
-  unfolding tail_text
-  text_is = refl
+  encoding_is : tail_encoding kind values ≡ least_encoding kind tail ++ run_of
+  unfolding tail_encoding
+  encoding_is = refl
 
-  pub tail_bytes : AreBytes (tail_text kind values)
-  tail_bytes = subst AreBytes (sym text_is) (AreBytes-append (least_text kind tail) run_of (least_bytes kind tail) (groups_run in_groups group_words).0)
+  pub tail_bytes : AreBytes (tail_encoding kind values)
+  tail_bytes = subst AreBytes (sym encoding_is) (AreBytes-append (least_encoding kind tail) run_of (least_bytes kind tail) (groups_run in_groups group_words).0)
 
   -- the groups are read
   groups_back : (block : ℕ) → (groups_fault (groups_of (length in_groups)) block (length in_groups) run_of ≡ None)
@@ -159,12 +159,12 @@ module _ (kind : ColumnKind) (values : List ℕ) (words : AreWords values) where
       × (groups_codes (groups_of (length in_groups)) (length in_groups) l ≡ in_groups) × (after_groups (groups_of (length in_groups)) (length in_groups) l ≡ [])) (append-nil run_of)
       (groups_read_back (groups_of (length in_groups)) block in_groups run_of [] (omega arith) (omega arith) group_words (groups_run in_groups group_words).1)
 
-  pub tail_len : length (tail_text kind values) ≤ 5 + 4 * left + (left + 31) / 32
+  pub tail_len : length (tail_encoding kind values) ≤ 5 + 4 * left + (left + 31) / 32
   tail_len =
       let few : length in_groups ≤ left = (let e = groups_long in let f = found_long in let g = length-drop out found in omega arith) in
       let most = longest_groups (groups_of (length in_groups)) in_groups run_of group_words (groups_run in_groups group_words).1 in
       let least = least_len kind tail in
-      let sum = ap length text_is ∙ length-append (least_text kind tail) run_of in
+      let sum = ap length encoding_is ∙ length-append (least_encoding kind tail) run_of in
       omega arith
 
 module _ (kind : ColumnKind) (first : ℕ) (values rest : List ℕ) (is : AreTailed kind first values rest) where
@@ -190,7 +190,7 @@ module _ (kind : ColumnKind) (first : ℕ) (values rest : List ℕ) (is : AreTai
   long = tail_long kind values all_words
 
   least_at : IsLeast kind last bytes (run_of kind values all_words)
-  least_at = least_is kind last bytes (run_of kind values all_words) (is.tail ∙ text_is kind values all_words)
+  least_at = least_is kind last bytes (run_of kind values all_words) (is.tail ∙ encoding_is kind values all_words)
 
   groups_here : groups_at kind over bytes ≡ run_of kind values all_words
   groups_here = ap (λ (n : ℕ). groups_at kind n bytes) (sym long) ∙ least_at.after

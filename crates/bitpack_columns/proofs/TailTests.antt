@@ -23,27 +23,27 @@ abbrev pub plain_codes : ℕ → ℕ → List ℕ → List ℕ
 plain_codes blocks count groups = replicate (left_out Plain blocks count) 0 ++ groups_codes (groups_of (coded Plain blocks count)) (coded Plain blocks count) groups
 
 -- what is after the number is named
-told : (blocks count : ℕ) (tail later : List ℕ) (right : Bool) → 0 < count → of (number_fault tail) ≡ None
+decided : (blocks count : ℕ) (tail later : List ℕ) (right : Bool) → 0 < count → of (number_fault tail) ≡ None
     → of (groups_fault (groups_of (coded Plain blocks count)) blocks (coded Plain blocks count) (drop (number_end tail) tail)) ≡ None
     → later ≡ after_groups (groups_of (coded Plain blocks count)) (coded Plain blocks count) (drop (number_end tail) tail)
     → eqb (least (values_of Plain (number_value tail) (plain_codes blocks count (drop (number_end tail) tail)))) (number_value tail) ≡ right
     → plain_tail_fault blocks count tail ≡ cond right (cond (eqb (length later) 0) None (Some Trailing)) (Some (BadLast blocks))
 unfolding plain_tail_fault
-told blocks zero tail later right some number sound later_is test = absurd (omega arith)
-told blocks (suc more) tail later true some number sound later_is test =
+decided blocks zero tail later right some number sound later_is test = absurd (omega arith)
+decided blocks (suc more) tail later true some number sound later_is test =
     let has : has_least Plain (suc more) ≡ true = lt-ltb 0 (suc more) some in
     rw (has, number, sound, test, later_is) refl
-told blocks (suc more) tail later false some number sound later_is test =
+decided blocks (suc more) tail later false some number sound later_is test =
     let has : has_least Plain (suc more) ≡ true = lt-ltb 0 (suc more) some in
     rw (has, number, sound, test) refl
 
-pub plain_told : (blocks count base : ℕ) (tail groups codes later : List ℕ) → 0 < count → of (number_fault tail) ≡ None → groups ≡ drop (number_end tail) tail
+pub plain_decided : (blocks count base : ℕ) (tail groups codes later : List ℕ) → 0 < count → of (number_fault tail) ≡ None → groups ≡ drop (number_end tail) tail
     → of (groups_fault (groups_of (coded Plain blocks count)) blocks (coded Plain blocks count) groups) ≡ None → base ≡ number_value tail
     → codes ≡ plain_codes blocks count groups → later ≡ after_groups (groups_of (coded Plain blocks count)) (coded Plain blocks count) groups
     → (right : Bool) → eqb (least (values_of Plain base codes)) base ≡ right
     → plain_tail_fault blocks count tail ≡ cond right (cond (eqb (length later) 0) None (Some Trailing)) (Some (BadLast blocks))
-plain_told blocks count base tail groups codes later some number groups_is sound base_is codes_is later_is right tells =
-    told blocks count tail later right some number (rw groups_is at sound) (rw groups_is at later_is) (rw (base_is, codes_is, groups_is) at tells)
+plain_decided blocks count base tail groups codes later some number groups_is sound base_is codes_is later_is right decides =
+    decided blocks count tail later right some number (rw groups_is at sound) (rw groups_is at later_is) (rw (base_is, codes_is, groups_is) at decides)
 
 pub plain_tail : (first count : ℕ) (rest : List ℕ) → tail_fault Plain first count rest ≡ plain_tail_fault (count / 128) (count % 128) (tail_at (count / 128) rest)
 unfolding tail_fault plain_tail_fault least_number_fault least_fault first_out

@@ -5,18 +5,18 @@ use Rattle.bitpacking.specs.Words.{joined}
 use Rattle.bitpack_groups.specs.Numbers.{count_fault, going_on, number_end, number_fault, number_in, number_value, short_at}
 use Rattle.bitpack_groups.specs.Groups.{after_groups, are_loose, group_fault, groups_codes, groups_fault}
 use Rattle.bitpack_groups.specs.Packed.{group, groups, le_bytes, packed, width_from}
-use Rattle.bitpack_columns.specs.Columns.{blocks_text, header_text, least, packed_block, sum_to, tail_text, text}
+use Rattle.bitpack_columns.specs.Columns.{blocks_encoding, encoding, header_encoding, least, packed_block, sum_to, tail_encoding}
 use Rattle.bitpack_columns.specs.Faults.{blocks_fault, body_fault, end_fault, fault, first_below, first_of, first_out, header_fault, least_fault, least_number_fault, loose_sizes_fault, rest_fault, sizes_fault, tail_fault}
 use Rattle.bitpack_columns.specs.Stated.{values_in}
 use Rattle.bitpack_columns.specs.WorkedColumns.{WorkedLong, WorkedShort}
 use Rattle.bitpack_columns.specs.WorkedFaults.{WorkedFaults, WorkedReads}
 
 pub worked_short : WorkedShort
-unfolding number_in le_bytes width_from packed group groups least header_text tail_text text
+unfolding number_in le_bytes width_from packed group groups least header_encoding tail_encoding encoding
 worked_short = (refl, refl, refl, refl, refl, refl, refl, refl, refl, refl, refl)
 
 pub worked_long : WorkedLong
-unfolding number_in le_bytes width_from packed group groups joined least packed_block sum_to blocks_text header_text tail_text text
+unfolding number_in le_bytes width_from packed group groups joined least packed_block sum_to blocks_encoding header_encoding tail_encoding encoding
 worked_long = (refl, refl, refl, refl, refl, refl, refl, refl)
 
 pub worked_faults : WorkedFaults

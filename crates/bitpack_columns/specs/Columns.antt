@@ -76,10 +76,10 @@ tail_base Plain first mark blocks least = least
 tail_base Sorted first mark blocks least = base_of Sorted first mark blocks
 
 -- the least value of a tail, which a plain column has
-abbrev pub least_text : ColumnKind → List ℕ → List ℕ
-least_text Sorted tail = []
-least_text Plain [] = []
-least_text Plain (x ∷ xs) = number (least (x ∷ xs))
+abbrev pub least_encoding : ColumnKind → List ℕ → List ℕ
+least_encoding Sorted tail = []
+least_encoding Plain [] = []
+least_encoding Plain (x ∷ xs) = number (least (x ∷ xs))
 
 -- ---- the encoding of a column
 
@@ -88,10 +88,10 @@ kind_bit Plain = 0
 kind_bit Sorted = 1
 
 -- the first value, which a sorted column has
-abbrev pub first_text : ColumnKind → List ℕ → List ℕ
-first_text Plain values = []
-first_text Sorted [] = []
-first_text Sorted (x ∷ xs) = number x
+abbrev pub first_encoding : ColumnKind → List ℕ → List ℕ
+first_encoding Plain values = []
+first_encoding Sorted [] = []
+first_encoding Sorted (x ∷ xs) = number x
 
 module _ (kind : ColumnKind) (values : List ℕ) where
   -- the count of whole blocks, and the first value
@@ -122,8 +122,8 @@ module _ (kind : ColumnKind) (values : List ℕ) where
   mark_bytes = byte_count (greatest mark_in blocks)
 
   -- the sizes, the ends, the marks and the bodies of the blocks
-  unfoldable pub blocks_text : List ℕ
-  blocks_text =
+  unfoldable pub blocks_encoding : List ℕ
+  blocks_encoding =
       (end_bytes + 16 * mark_bytes) ∷ flat_map (λ m. le_bytes end_bytes (end_in m)) (range_with_len 0 blocks)
       ++ flat_map (λ m. le_bytes mark_bytes (mark_in m)) (range_with_len 0 blocks)
       ++ flat_map (λ m. packed_block (width_in m) (codes_in m)) (range_with_len 0 blocks)
@@ -136,16 +136,16 @@ module _ (kind : ColumnKind) (values : List ℕ) where
   tail_codes = codes kind (tail_base kind first mark_in blocks (least tail)) tail
 
   -- the tail: its least value, if the column is plain, and its codes in groups
-  unfoldable pub tail_text : List ℕ
-  tail_text =
+  unfoldable pub tail_encoding : List ℕ
+  tail_encoding =
       let coded = drop (left_out kind blocks (length tail)) tail_codes in
-      least_text kind tail ++ groups (groups_of (length coded)) coded
+      least_encoding kind tail ++ groups (groups_of (length coded)) coded
 
   -- byte 0 with the kind and the count if it is below 31, else the count after it, and the first value of a sorted column
-  unfoldable pub header_text : List ℕ
-  header_text =
-      (64 + 32 * kind_bit kind + min (length values) 31) ∷ (if nat_lt (length values) 31 then [] else number (length values)) ++ first_text kind values
+  unfoldable pub header_encoding : List ℕ
+  header_encoding =
+      (64 + 32 * kind_bit kind + min (length values) 31) ∷ (if nat_lt (length values) 31 then [] else number (length values)) ++ first_encoding kind values
 
   -- the encoding of a column
-  unfoldable pub text : List ℕ
-  text = header_text ++ (if blocks == 0 then [] else blocks_text) ++ tail_text
+  unfoldable pub encoding : List ℕ
+  encoding = header_encoding ++ (if blocks == 0 then [] else blocks_encoding) ++ tail_encoding

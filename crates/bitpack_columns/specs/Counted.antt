@@ -5,7 +5,7 @@ use Rattle.bitpack_columns.specs.declared.column.Column.{Column}
 use Rattle.bitpack_columns.specs.declared.column_kind.ColumnKind.TheVariants.{Plain, Sorted}
 use Rattle.bitpack_columns.specs.declared.reads.Reads.{Reads}
 use Rattle.bitpack_columns.specs.Opened.{blocks_of, kind_of}
-use Rattle.bitpack_columns.specs.Searches.{greatest_in, least_in, told}
+use Rattle.bitpack_columns.specs.Searches.{decided, greatest_in, least_in}
 
 -- at most this many marks were read, and nothing was unpacked
 pub record ReadsMarks (most : ℕ) (old new : Reads) : Type 0 where
@@ -23,13 +23,13 @@ pub record ReadsSearches (searches : ℕ) (column : Column) (old new : Reads) : 
   pub blocks : new.blocks ≤ old.blocks + searches
 
 -- the bounds of a block of a plain column do not tell of its values, or it is the tail, which has none
-abbrev pub is_untold : Column → ℕ → ℕ → ℕ → Bool
-is_untold column low high block = nat_le (blocks_of column) block || is_none (told low high (least_in column block) (greatest_in column block))
+abbrev pub is_undecided : Column → ℕ → ℕ → ℕ → Bool
+is_undecided column low high block = nat_le (blocks_of column) block || is_none (decided low high (least_in column block) (greatest_in column block))
 
 -- of the `count` blocks from one on at most those that are untold were unpacked
 abbrev pub UnpacksUntold : Column → ℕ → ℕ → ℕ → ℕ → Reads → Reads → Type 0
 UnpacksUntold column low high first count old new =
-    new.blocks ≤ old.blocks + length (filter (is_untold column low high) (range_with_len first count))
+    new.blocks ≤ old.blocks + length (filter (is_undecided column low high) (range_with_len first count))
 
 -- a range from a block on: two searches in a sorted column, and the untold blocks of a plain one
 pub record ReadsRange (column : Column) (low high first : ℕ) (old new : Reads) : Type 0 where

@@ -13,8 +13,8 @@ HasValues values last =
     (position : ℕ) → position < length values → position / 128 ≡ last.block → slice_index last.values (position % 128) ≡ slice_index values position
 
 -- a block is the one that was unpacked last, and was unpacked only if it was not; or it was not unpacked, as was no other
-pub record HoldsBlock (block : ℕ) (last next : LastBlock) (old new : Reads) : Type 0 where
-  pub kept : last.block ≡ block → (next.block ≡ block) × (new.blocks ≡ old.blocks)
+pub record CachesBlock (block : ℕ) (last next : LastBlock) (old new : Reads) : Type 0 where
+  pub cached : last.block ≡ block → (next.block ≡ block) × (new.blocks ≡ old.blocks)
   pub once : ((next.block ≡ block) × (new.blocks ≤ old.blocks + 1)) ⊎ (new.blocks ≡ old.blocks)
 
 -- the first `len` values of a tail of `count` end with a group, or are all; the first codes are left out

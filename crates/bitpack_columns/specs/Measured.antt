@@ -4,7 +4,7 @@ use Rattle.std.specs.List.{flat_map, range_with_len}
 use Rattle.bitpack_columns.specs.declared.column.Column.{Column}
 use Rattle.bitpack_columns.specs.declared.column_kind.ColumnKind.{ColumnKind}
 use Rattle.bitpack_columns.specs.declared.column_kind.ColumnKind.TheVariants.{Plain, Sorted}
-use Rattle.bitpack_columns.specs.Columns.{base_of, block_of, codes, header_text, least, least_text, left_out, mark_in, packed_block, sum_to, tail_text, text}
+use Rattle.bitpack_columns.specs.Columns.{base_of, block_of, codes, encoding, header_encoding, least, least_encoding, left_out, mark_in, packed_block, sum_to, tail_encoding}
 use Rattle.bitpack_columns.specs.Faults.{first_below, first_out}
 use Rattle.bitpack_columns.specs.Numbers.{greatest, groups_of}
 use Rattle.bitpack_columns.specs.Opened.{blocks_of, kind_of, values}
@@ -29,14 +29,14 @@ module _ (kind : ColumnKind) (before : ℕ) (values : List ℕ) where
   width_after m = least_width (codes_after m)
 
   -- the ends of their blocks from a start on, their marks, and their bodies
-  unfoldable pub ends_text : ℕ → ℕ → List ℕ
-  ends_text size start = flat_map (λ m. le_bytes size (start + sum_to width_after (suc m))) (range_with_len 0 (length values / 128))
+  unfoldable pub ends_encoding : ℕ → ℕ → List ℕ
+  ends_encoding size start = flat_map (λ m. le_bytes size (start + sum_to width_after (suc m))) (range_with_len 0 (length values / 128))
 
-  unfoldable pub marks_text : ℕ → List ℕ
-  marks_text size = flat_map (λ m. le_bytes size (mark_in kind values m)) (range_with_len 0 (length values / 128))
+  unfoldable pub marks_encoding : ℕ → List ℕ
+  marks_encoding size = flat_map (λ m. le_bytes size (mark_in kind values m)) (range_with_len 0 (length values / 128))
 
-  unfoldable pub bodies_text : List ℕ
-  bodies_text = flat_map (λ m. packed_block (width_after m) (codes_after m)) (range_with_len 0 (length values / 128))
+  unfoldable pub bodies_encoding : List ℕ
+  bodies_encoding = flat_map (λ m. packed_block (width_after m) (codes_after m)) (range_with_len 0 (length values / 128))
 
 -- the sum of the widths of the whole blocks, their greatest mark, and if the column is sorted the value before what follows them
 pub record IsMeasured (kind : ColumnKind) (before : ℕ) (values : List ℕ) (total most last : ℕ) : Type 0 where
@@ -63,13 +63,13 @@ pub record Follows (kind : ColumnKind) (values : List ℕ) (count last : ℕ) : 
 unfoldable pub tail_after : ColumnKind → ℕ → ℕ → List ℕ → List ℕ
 tail_after kind blocks before tail =
     let coded = drop (left_out kind blocks (length tail)) (codes kind (base_after kind before (least tail)) tail) in
-    least_text kind tail ++ groups (groups_of (length coded)) coded
+    least_encoding kind tail ++ groups (groups_of (length coded)) coded
 
 -- a column is measured, and its header and its tail are written; of the values that are packed, which follow `before`, widths are cached
 pub record IsPlanned (kind : ColumnKind) (values : List ℕ) (before : ℕ) (packed : List ℕ) (len total most last : ℕ) (widths header tail : List ℕ) : Type 0 where
-  pub len_is : len ≡ length (text kind values)
-  pub header_is : header ≡ header_text kind values
-  pub tail_is : tail ≡ tail_text kind values
+  pub len_is : len ≡ length (encoding kind values)
+  pub header_is : header ≡ header_encoding kind values
+  pub tail_is : tail ≡ tail_encoding kind values
   pub measured : IsMeasured kind (slice_index values 0) values total most last
   pub widths_are : AreWidths kind before packed widths
 

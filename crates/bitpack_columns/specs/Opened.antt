@@ -5,8 +5,8 @@ use Rattle.bitpack_columns.specs.declared.column_kind.ColumnKind.{ColumnKind}
 use Rattle.bitpack_columns.specs.Stated.{values_in}
 
 -- its bytes
-abbrev pub text_of : Column → List ℕ
-text_of column = column.bytes.now
+abbrev pub encoding_of : Column → List ℕ
+encoding_of column = column.bytes.now
 
 -- its kind
 abbrev pub kind_of : Column → ColumnKind
@@ -14,7 +14,7 @@ kind_of column = column.kind
 
 -- its values
 abbrev pub values : Column → List ℕ
-values column = values_in (text_of column)
+values column = values_in (encoding_of column)
 
 -- how many whole blocks it has
 abbrev pub blocks_of : Column → ℕ

@@ -1,4 +1,4 @@
--- What searches in a column find, and what the bounds of a block tell of a range of values, both ends included.
+-- What searches in a column find, and what the bounds of a block decide of a range of values, both ends included.
 use Rattle.std.specs.Prelude.{◌≡◌, ℕ, ◌+◌, ◌-◌, ◌*◌, ◌^◌, ◌<◌, ◌≤◌, Bool, true, false, ◌&&◌, ◌||◌, nat_lt, nat_le, if◌then◌else◌, min, ◌==◌, List, length, map, take, drop, slice_index, Option, Some, None}
 use Rattle.std.specs.Int.{bit_at}
 use Rattle.std.specs.List.{filter, range_with_len}
@@ -16,8 +16,8 @@ pub record IsLowerBound (values : List ℕ) (target position : ℕ) : Type 0 whe
   pub others : (k : ℕ) → position ≤ k → k < length values → target ≤ slice_index values k
 
 -- of the values, `count` from one on, the positions of those within a range
-abbrev pub positions_among : ℕ → ℕ → ℕ → ℕ → List ℕ → List ℕ
-positions_among low high from count values = filter (λ position. is_between low high (slice_index values position)) (range_with_len from count)
+abbrev pub positions_in_range : ℕ → ℕ → ℕ → ℕ → List ℕ → List ℕ
+positions_in_range low high from count values = filter (λ position. is_between low high (slice_index values position)) (range_with_len from count)
 
 -- the positions from one on are written at the start of a slice, as many as fit, and the rest of the slice is unchanged
 pub record FindsPositions (low high from : ℕ) (values : List ℕ) (result : ℕ) (old new : List ℕ) : Type 0 where
@@ -28,7 +28,7 @@ pub record FindsPositions (low high from : ℕ) (values : List ℕ) (result : �
 -- the positions of the first values that are within a range are at the start of a slice; the first value has the position `start`
 pub record HasFound (low high : ℕ) (values : List ℕ) (start count next : ℕ) (found : List ℕ) : Type 0 where
   pub few : next ≤ count
-  pub positions : take next found ≡ map (λ index. start + index) (positions_among low high 0 count values)
+  pub positions : take next found ≡ map (λ index. start + index) (positions_in_range low high 0 count values)
 
 -- the bits of a byte that are 1, the lowest first
 unfoldable pub ones_in : ℕ → List ℕ
@@ -47,9 +47,9 @@ greatest_in column block = min (2 ^ 32 - 1) (least_in column block + (2 ^ width_
 abbrev pub AreWithin : Bool → ℕ → ℕ → ℕ → List ℕ → Type 0
 AreWithin answer low high block values = (k : ℕ) → k < 128 → is_between low high (slice_index values (128 * block + k)) ≡ answer
 
--- what bounds tell: that no value is within a range, that all are, or neither
-abbrev pub told : ℕ → ℕ → ℕ → ℕ → Option Bool
-told low high least greatest =
+-- what bounds decide: that no value is within a range, that all are, or neither
+abbrev pub decided : ℕ → ℕ → ℕ → ℕ → Option Bool
+decided low high least greatest =
     if nat_lt greatest low || nat_lt high least then Some false
     else if nat_le low least && nat_le greatest high then Some true
     else None

@@ -5,7 +5,7 @@ use Rattle.std.specs.declared.vec.Vec.{Vec}
 use Rattle.bitpack_columns.specs.declared.column_error.ColumnError.{ColumnError}
 use Rattle.bitpack_columns.specs.declared.column_error.ColumnError.TheVariants.{Memory, NotSorted, Overflow, Short, TooLong}
 use Rattle.bitpack_columns.specs.declared.column_kind.ColumnKind.{ColumnKind}
-use Rattle.bitpack_columns.specs.Columns.{IsColumn, text}
+use Rattle.bitpack_columns.specs.Columns.{IsColumn, encoding}
 use Rattle.bitpack_columns.specs.Faults.{first_of, first_out}
 
 -- why a writer refuses values: they are too many, or in a sorted column one is below the one before
@@ -16,17 +16,17 @@ refusal kind values =
 -- the length of the encoding of a column; or the values are none
 pub record MeasuresColumn (kind : ColumnKind) (values : List ℕ) (result : Result ℕ ColumnError) : Type 0 where
   pub column : OnOk result (IsColumn kind values)
-  pub len : IfOk result (λ len. len ≡ length (text kind values))
+  pub len : IfOk result (λ len. len ≡ length (encoding kind values))
   pub fault : MatchOption (refusal kind values) (IsOk result) (λ fault. result ≡ Err fault)
 
 -- the encoding of a column is written, and what is after it is unchanged; or a fault refuses the values, or the slice is too short, and
 -- nothing changed
 pub record WritesUnless (refused : Option ColumnError) (kind : ColumnKind) (values : List ℕ) (result : Result ℕ ColumnError) (old new : List ℕ) : Type 0 where
   pub column : OnOk result (IsColumn kind values)
-  pub len : IfOk result (λ len. len ≡ length (text kind values))
-  pub ok : OnOk result (new ≡ text kind values ++ drop (length (text kind values)) old)
+  pub len : IfOk result (λ len. len ≡ length (encoding kind values))
+  pub ok : OnOk result (new ≡ encoding kind values ++ drop (length (encoding kind values)) old)
   pub fault : MatchOption refused (IfErr result (λ e. e ≡ Short)) (λ fault. result ≡ Err fault)
-  pub room : refused ≡ None → OnErr result (length old < length (text kind values))
+  pub room : refused ≡ None → OnErr result (length old < length (encoding kind values))
   pub unchanged : OnErr result (new ≡ old)
 
 abbrev pub WritesColumn : ColumnKind → List ℕ → Result ℕ ColumnError → List ℕ → List ℕ → Type 0
@@ -35,11 +35,11 @@ WritesColumn kind values = WritesUnless (refusal kind values) kind values
 -- the encoding of a column is appended; or the values are none, or the vector has no room and memory runs out, and nothing changed
 pub record AppendsColumn {A : Type 0} (kind : ColumnKind) (values : List ℕ) (result : Result (Unit {0}) ColumnError) (old new : Vec ℕ A) : Type 0 where
   pub column : OnOk result (IsColumn kind values)
-  pub ok : OnOk result (new.items ≡ old.items ++ text kind values)
+  pub ok : OnOk result (new.items ≡ old.items ++ encoding kind values)
   pub fault : MatchOption (refusal kind values) (IfErr result (λ e. e ≡ Memory)) (λ fault. result ≡ Err fault)
-  pub room : refusal kind values ≡ None → OnErr result (vec_capacity old < vec_len old + length (text kind values))
+  pub room : refusal kind values ≡ None → OnErr result (vec_capacity old < vec_len old + length (encoding kind values))
   pub unchanged : OnErr result (new.items ≡ old.items)
-  pub kept : OnErr result (vec_capacity new ≡ vec_capacity old)
+  pub capacity : OnErr result (vec_capacity new ≡ vec_capacity old)
 
 -- ---- the values of a column and of another one after it, each of these with a base added
 

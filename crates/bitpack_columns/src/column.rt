@@ -49,21 +49,21 @@ pub struct Column<'a> {
 
 impl<'a> Column<'a> {
     ghost use Rattle.std.specs.Prelude.{◌↔◌, [], IfOk, IsTrue, None, length};
-    ghost use Rattle.bitpack_columns.specs.Columns.{IsColumn, text};
+    ghost use Rattle.bitpack_columns.specs.Columns.{IsColumn, encoding};
     ghost use Rattle.bitpack_columns.specs.Errors.{Finds};
     ghost use Rattle.bitpack_columns.specs.Faults.{fault};
-    ghost use Rattle.bitpack_columns.specs.Opened.{kind_of, text_of, values};
+    ghost use Rattle.bitpack_columns.specs.Opened.{encoding_of, kind_of, values};
     ghost use Rattle.bitpack_columns.specs.Stated.{kind_in};
 
     /// Opens an encoded column. Tests all bytes, accepts any, and allocates nothing.
     pub fn open(bytes: &'a [u8]) -> Result<Column<'a>, ColumnError>
         // Bytes with a fault are refused for the first, and bytes without one are opened.
         ensures fault { Finds result (fault bytes.now) }
-        ensures bytes { IfOk result (λ column. text_of column ≡ bytes.now) }
+        ensures bytes { IfOk result (λ column. encoding_of column ≡ bytes.now) }
         ensures kind { IfOk result (λ column. kind_of column ≡ kind_in bytes.now) }
         // The bytes are the encoding of this column.
         ensures column { IfOk result (λ column. IsColumn (kind_of column) (values column)) }
-        ensures text { IfOk result (λ column. text (kind_of column) (values column) ≡ bytes.now) }
+        ensures encoding { IfOk result (λ column. encoding (kind_of column) (values column) ≡ bytes.now) }
     {
         let parts = test_column(bytes)?;
         Ok(Column {
@@ -79,10 +79,10 @@ impl<'a> Column<'a> {
     /// were opened.
     pub fn of_tested(bytes: &'a [u8]) -> Column<'a>
         requires sound { fault bytes.now ≡ None }
-        ensures bytes { text_of result ≡ bytes.now }
+        ensures bytes { encoding_of result ≡ bytes.now }
         ensures kind { kind_of result ≡ kind_in bytes.now }
         ensures column { IsColumn (kind_of result) (values result) }
-        ensures text { text (kind_of result) (values result) ≡ bytes.now }
+        ensures encoding { encoding (kind_of result) (values result) ≡ bytes.now }
     {
         Column::from_parts(bytes, read_parts(bytes))
     }
@@ -90,10 +90,10 @@ impl<'a> Column<'a> {
     /// The column of these bytes, whose parts were taken from it when they were opened. Reads none of the bytes.
     pub fn from_parts(bytes: &'a [u8], parts: Parts<'a>) -> Column<'a>
         requires { States bytes.now parts.kind parts.count parts.first parts.rest.now }
-        ensures bytes { text_of result ≡ bytes.now }
+        ensures bytes { encoding_of result ≡ bytes.now }
         ensures kind { kind_of result ≡ kind_in bytes.now }
         ensures column { IsColumn (kind_of result) (values result) }
-        ensures text { text (kind_of result) (values result) ≡ bytes.now }
+        ensures encoding { encoding (kind_of result) (values result) ≡ bytes.now }
     {
         Column {
             bytes,
@@ -106,7 +106,7 @@ impl<'a> Column<'a> {
 
     /// What opening this column found.
     pub fn parts(&self) -> Parts<'a>
-        ensures states { States (text_of self.now) result.kind result.count result.first result.rest.now }
+        ensures states { States (encoding_of self.now) result.kind result.count result.first result.rest.now }
         ensures kind { result.kind ≡ kind_of self.now }
         ensures count { result.count ≡ length (values self.now) }
     {

@@ -23,7 +23,7 @@ pub struct ColumnBuilder {
 impl ColumnBuilder {
     ghost use Rattle.std.specs.Prelude.{◌↔◌, ◌+◌, ◌-◌, ◌<◌, ◌++◌, ◌∷◌, [], IfErr, IsTrue, OnErr, OnOk, slice_get, vec_capacity, vec_len};
     ghost use Rattle.bitpack_columns.specs.Builders.{Pushes, kind_of_builder, room_of_builder, values_of_builder};
-    ghost use Rattle.bitpack_columns.specs.Columns.{IsColumn, text};
+    ghost use Rattle.bitpack_columns.specs.Columns.{IsColumn, encoding};
 
     /// Returns a builder without values. Allocates nothing.
     pub fn new(alloc: Global, kind: ColumnKind) -> ColumnBuilder
@@ -126,12 +126,12 @@ impl ColumnBuilder {
     pub fn encode(&self, out: &mut Vec<u8>) -> Result<(), ColumnError>
         ensures column { OnOk result (IsColumn (kind_of_builder self.now) (values_of_builder self.now)) }
         ensures ok { OnOk result (out.new.items
-            ≡ out.old.items ++ text (kind_of_builder self.now) (values_of_builder self.now)) }
+            ≡ out.old.items ++ encoding (kind_of_builder self.now) (values_of_builder self.now)) }
         ensures memory { IfErr result (λ e. e ≡ ColumnError.Memory) }
         ensures room { OnErr result (vec_capacity out.old
-            < vec_len out.old + length (text (kind_of_builder self.now) (values_of_builder self.now))) }
+            < vec_len out.old + length (encoding (kind_of_builder self.now) (values_of_builder self.now))) }
         ensures unchanged { OnErr result (out.new.items ≡ out.old.items) }
-        ensures kept { OnErr result (vec_capacity out.new ≡ vec_capacity out.old) }
+        ensures capacity { OnErr result (vec_capacity out.new ≡ vec_capacity out.old) }
     {
         encode(self.kind, self.values.as_slice(), out)
     }

@@ -1,7 +1,7 @@
 //! From values to bytes: the encoding of a column is planned, and then written.
 
 ghost use Rattle.std.specs.Prelude.{◌≡◌, ◌+◌, ◌*◌, ◌^◌, ◌<◌, ◌≤◌, ◌++◌, ◌==◌, if◌then◌else◌, IfOk, OnOk, length, replicate, slice_index, take, vec_capacity, vec_len};
-ghost use Rattle.bitpack_columns.specs.Columns.{IsColumn, header_text, tail_text, text};
+ghost use Rattle.bitpack_columns.specs.Columns.{IsColumn, encoding, header_encoding, tail_encoding};
 ghost use Rattle.bitpack_columns.specs.Errors.{Finds};
 ghost use Rattle.bitpack_columns.specs.Measured.{AreWidths, IsMeasured, IsPlanned};
 ghost use Rattle.bitpack_columns.specs.Numbers;
@@ -221,7 +221,7 @@ fn write_column(
     requires few { length values.now ≤ 2 ^ 28 }
     requires planned { IsPlanned kind values.now (slice_index values.now 0) values.now
         (length out.old) measured.total measured.greatest measured.last widths.now header.now tail.now }
-    ensures { out.new ≡ text kind values.now }
+    ensures { out.new ≡ encoding kind values.now }
 {
     let (front, rest) = out.split_at_mut(header.len());
     let (blocks, end) = rest.split_at_mut(rest.len() - tail.len());

@@ -30,10 +30,10 @@ pub fill_part : (out new : List ℕ) (at size : ℕ) (part rest all : List ℕ) 
 fill_part out new at size part rest all fill long is =
     let room = fill_room out at part rest all fill in
     let same = ap length is in
-    let kept : length (put_mid at size out new) ≡ length out = length-written at size out new fill.within (omega arith) (omega arith) in
+    let unchanged : length (put_mid at size out new) ≡ length out = length-written at size out new fill.within (omega arith) (omega arith) in
     let front = take-put_mid at size out new (at + size) (omega arith) fill.within in
     record {
-      size = kept ∙ fill.size;
+      size = unchanged ∙ fill.size;
       within = omega arith;
       parts = ap (λ (l : List ℕ). l ++ rest) (front ∙ ap (λ (l : List ℕ). take at out ++ l) is) ∙ append_assoc (take at out) part rest ∙ fill.parts;
     }

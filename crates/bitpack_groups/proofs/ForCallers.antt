@@ -9,7 +9,7 @@ pub use Rattle.bitpack_groups.proofs.GroupSteps.{after-next, codes-next, codes_s
 pub use Rattle.bitpack_groups.proofs.GroupsLaws.{groups_are_read, groups_exist, groups_read_back, groups_same, one_run_of_codes, same_group}
 pub use Rattle.bitpack_groups.proofs.IntegerLaws.{flat_more, flat_none, le_more, le_none, lent_len, little_len, product_more}
 pub use Rattle.bitpack_groups.proofs.IntegerReads.{cut_byte, joined_same, short_four, short_one, short_three, short_two, within_all}
-pub use Rattle.bitpack_groups.proofs.IntegerTexts.{count_fits, count_some, front_is, front_text, front_value, little_bytes, low_first}
+pub use Rattle.bitpack_groups.proofs.IntegerEncodings.{count_fits, count_some, front_encoding, front_is, front_value, little_bytes, low_first}
 pub use Rattle.bitpack_groups.proofs.Lengths.{AreBytes-number_in, longest_group, longest_groups, longest_number}
 pub use Rattle.bitpack_groups.proofs.NumberLaws.{number_reads_back, one_number}
 pub use Rattle.bitpack_groups.proofs.NumberLemmas.{length-number_in, number-large, number-small, number_in-large, number_in-small}

@@ -7,9 +7,9 @@ mod GroupLaws
 mod GroupLemmas
 mod GroupSteps
 mod GroupsLaws
+mod IntegerEncodings
 mod IntegerLaws
 mod IntegerReads
-mod IntegerTexts
 mod Lengths
 mod NumberLaws
 mod NumberLemmas

@@ -9,7 +9,7 @@ use Rattle.std.proofs.lemmas.Nat.{div_below, mod_below, mul-add-lt, mul-le, shr-
 use Rattle.std.proofs.lemmas.Nat.Bits.{bit_at_cat_high, bit_at_cat_low, same_from_bits_below}
 use Rattle.bitpack_groups.proofs.GroupLaws.{place-one}
 use Rattle.bitpack_groups.proofs.GroupsLaws.{one_run_of_codes}
-use Rattle.bitpack_groups.proofs.IntegerTexts.{front_text, front_value, low_first}
+use Rattle.bitpack_groups.proofs.IntegerEncodings.{front_encoding, front_value, low_first}
 use Rattle.bitpack_groups.proofs.WidthLemmas.{Decides-fits}
 use Rattle.bitpacking.specs.Bits.{AreBytes, bit_of}
 use Rattle.bitpacking.specs.Codes.{AreWords}
@@ -174,7 +174,7 @@ group_is codes part few words is =
     let number : x ≡ packed width codes = same ∙ packed_padded width (32 - length codes) codes in
     let size : ℕ = (length codes * width + 7) / 8 in
     let most : length codes * width ≤ 32 * width = mul-le (length codes) width 32 width few (omega arith) in
-    let little : le_bytes (length is.body) x ≡ is.body = front_text (length is.body) is.body is.bytes (omega arith) ∙ take_all (length is.body) is.body (omega arith) in
+    let little : le_bytes (length is.body) x ≡ is.body = front_encoding (length is.body) is.body is.bytes (omega arith) ∙ take_all (length is.body) is.body (omega arith) in
     let cut : take size is.body ≡ le_bytes size x = ap (take size) (sym little) ∙ le_taken size (length is.body) x (omega arith) in
     is.parts ∙ ap (λ (l : List ℕ). width ∷ l) (cut ∙ ap (le_bytes size) number) ∙ ap (λ (w : ℕ). w ∷ le_bytes ((length codes * w + 7) / 8) (packed w codes)) (sym width_same)
   where

@@ -23,14 +23,14 @@ LooseFitsSmaller = (lanes width : ℕ) (codes bytes : List ℕ) → Layout lanes
     → IsTrue (is_loose lanes width bytes) ↔ ((smaller : ℕ) × (smaller < width) × Fits codes smaller)
 
 -- values have at most one encoded list of version 1
-abbrev pub OneText1 : Type 0
-OneText1 = (lanes : ℕ) (kind : ListKind) (values text other : List ℕ) → 0 < lanes → AreBytes text → AreBytes other
-    → List1 lanes kind values text → List1 lanes kind values other → other ≡ text
+abbrev pub OneEncoding1 : Type 0
+OneEncoding1 = (lanes : ℕ) (kind : ListKind) (values encoding other : List ℕ) → 0 < lanes → AreBytes encoding → AreBytes other
+    → List1 lanes kind values encoding → List1 lanes kind values other → other ≡ encoding
 
 -- an encoded list of version 1 belongs to one kind and one list
 abbrev pub OneList1 : Type 0
-OneList1 = (lanes : ℕ) (kind kind' : ListKind) (values others text : List ℕ) → 0 < lanes
-    → List1 lanes kind values text → List1 lanes kind' others text → (kind' ≡ kind) × (others ≡ values)
+OneList1 = (lanes : ℕ) (kind kind' : ListKind) (values others encoding : List ℕ) → 0 < lanes
+    → List1 lanes kind values encoding → List1 lanes kind' others encoding → (kind' ≡ kind) × (others ≡ values)
 
 -- bytes have no fault exactly if they encode some list
 abbrev pub NoFault1 : Type 0
@@ -38,14 +38,14 @@ NoFault1 = (lanes : ℕ) (bytes : List ℕ) → 0 < lanes → AreBytes bytes
     → (fault1 lanes bytes ≡ None) ↔ ((kind : ListKind) × (values : List ℕ) × List1 lanes kind values bytes)
 
 -- values have at most one encoded list of version 2
-abbrev pub OneText2 : Type 0
-OneText2 = (lanes : ℕ) (kind : ListKind) (values text other : List ℕ) → 0 < lanes → AreBytes text → AreBytes other
-    → List2 lanes kind values text → List2 lanes kind values other → other ≡ text
+abbrev pub OneEncoding2 : Type 0
+OneEncoding2 = (lanes : ℕ) (kind : ListKind) (values encoding other : List ℕ) → 0 < lanes → AreBytes encoding → AreBytes other
+    → List2 lanes kind values encoding → List2 lanes kind values other → other ≡ encoding
 
 -- an encoded list of version 2 belongs to one kind and one list
 abbrev pub OneList2 : Type 0
-OneList2 = (lanes : ℕ) (kind kind' : ListKind) (values others text : List ℕ) → 0 < lanes → AreBytes text
-    → List2 lanes kind values text → List2 lanes kind' others text → (kind' ≡ kind) × (others ≡ values)
+OneList2 = (lanes : ℕ) (kind kind' : ListKind) (values others encoding : List ℕ) → 0 < lanes → AreBytes encoding
+    → List2 lanes kind values encoding → List2 lanes kind' others encoding → (kind' ≡ kind) × (others ≡ values)
 
 -- bytes have no fault exactly if they encode some list
 abbrev pub NoFault2 : Type 0
@@ -54,7 +54,7 @@ NoFault2 = (lanes : ℕ) (bytes : List ℕ) → 0 < lanes → AreBytes bytes
 
 -- the widths, the bodies and the tail of a list are the same bytes in both versions
 abbrev pub SameBodies : Type 0
-SameBodies = (lanes : ℕ) (kind : ListKind) (values text other : List ℕ) → 0 < lanes → AreBytes text → AreBytes other
-    → List1 lanes kind values text → List2 lanes kind values other
-    → drop 7 text ≡ parts_before lanes (whole_blocks lanes (length values)) (drop 7 other) (whole_blocks lanes (length values))
+SameBodies = (lanes : ℕ) (kind : ListKind) (values encoding other : List ℕ) → 0 < lanes → AreBytes encoding → AreBytes other
+    → List1 lanes kind values encoding → List2 lanes kind values other
+    → drop 7 encoding ≡ parts_before lanes (whole_blocks lanes (length values)) (drop 7 other) (whole_blocks lanes (length values))
     ++ drop (tail_start lanes (whole_blocks lanes (length values)) (drop 7 other)) (drop 7 other)

@@ -6,9 +6,9 @@ pub mod Laws
 pub mod Older
 pub mod Opened
 pub mod Parts
-pub mod Places
+pub mod LowerBounds
 pub mod Search
-pub mod Texts
+pub mod Encodings
 pub mod Version1
 pub mod Version2
-pub mod WorkedTexts
+pub mod WorkedEncodings

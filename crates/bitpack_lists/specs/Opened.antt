@@ -20,8 +20,8 @@ module _ {P : Type 0} {members : Ghosts P} (list : PackedList P members) where
   value_of = value_at members.lanes blocks_of list.kind rest_of
 
 -- the bytes that were opened
-abbrev pub text : {P : Type 0} {members : Ghosts P} → PackedList P members → List ℕ
-text list = list.bytes.now
+abbrev pub encoding : {P : Type 0} {members : Ghosts P} → PackedList P members → List ℕ
+encoding list = list.bytes.now
 
 -- its kind
 abbrev pub kind_of : {P : Type 0} {members : Ghosts P} → PackedList P members → ListKind

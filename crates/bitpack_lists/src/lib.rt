@@ -19,7 +19,7 @@ mod opened;
 mod reserved;
 mod v1;
 mod v2;
-mod worked_texts;
+mod worked_encodings;
 
 pub use list_error::ListError;
 pub use list_kind::ListKind;

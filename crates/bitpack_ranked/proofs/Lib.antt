@@ -1,6 +1,8 @@
 -- The lemmas of this crate.
+mod AddSteps
 mod BestSteps
-mod MarkSteps
+mod ManySteps
+mod MatchSteps
 mod PastSteps
 mod PositionLemmas
 mod RankLaws

@@ -1,4 +1,4 @@
--- The best stay so when more documents of a word are past: others cannot be among them, or there are none, or one is kept.
+-- The best stay so when more documents of a word are past: others cannot be among them, or there are none, or one is selected.
 use Rattle.std.proofs.Common.{◌≡◌, ℕ, ◌+◌, ◌-◌, ◌^◌, ◌<◌, ◌≤◌, ◌⊎◌, true, cond, List, ◌∷◌, ◌++◌, length, get_or, map, take, drop, refl, subst, sym, ap, ◌∙◌, inl, inr, arith}
 use Rattle.std.specs.List.{count_by, sum_by}
 use Rattle.std.proofs.lemmas.Bool.{cases_lt, le-ltb, lt-ltb}
@@ -7,9 +7,9 @@ use Rattle.bitpack_ranked.specs.declared.found.Scored.{Scored}
 use Rattle.bitpack_ranked.specs.Ranked.{AreBest, IsHit, has_word, part_in, position_of}
 use Rattle.bitpack_ranked.specs.Scores.{part_at}
 use Rattle.bitpack_ranked.specs.Terms.{IsWord, Word}
-use Rattle.bitpack_ranked.specs.inner.Keeping.{IsFull, IsKept}
+use Rattle.bitpack_ranked.specs.inner.Selecting.{IsFull, IsSelected}
 use Rattle.bitpack_ranked.specs.inner.Walks.{IsPast, IsPastIn}
-use Rattle.bitpack_ranked.proofs.BestSteps.{best_kept, best_none, best_same, best_skipped, same_scored}
+use Rattle.bitpack_ranked.proofs.BestSteps.{best_none, best_same, best_selected, best_skipped, same_scored}
 use Rattle.bitpack_ranked.proofs.PositionLemmas.{id_at, position_at}
 use Rattle.bitpack_ranked.proofs.RankLaws.{rising-increasing}
 use Rattle.bitpack_ranked.proofs.WordSteps.{cond_le, enough_first, no_parts, split_words, sum_all, sum_more}
@@ -24,7 +24,7 @@ pub record IsFresh (before : List Word) (word : Word) (after : List Word) (class
 
 module _ (before : List Word) (word : Word) (after : List Word) (is : IsWord word) (classes : List ℕ) (at_least k : ℕ) where
   abbrev Past : ℕ → Scored → Type 0
-  Past place = IsPastIn before word after classes at_least place
+  Past position = IsPastIn before word after classes at_least position
 
   abbrev Fresh : ℕ → ℕ → Scored → Type 0
   Fresh p q = IsFresh before word after classes at_least p q
@@ -67,30 +67,30 @@ module _ (before : List Word) (word : Word) (after : List Word) (is : IsWord wor
 
   pub past_full : (found : List Scored) (p q : ℕ) (x : Scored) → p ≤ q → ((i : ℕ) → p ≤ i → i < q → i < length word.ids → IsBelow x i)
       → IsFull k x found → AreBest (Past p) k found → AreBest (Past q) k found
-  past_full found p q x le most full best = best_skipped (Past p) (Past q) k x found best full (further p q le) (λ d was. elim (split p q d was) [
+  past_full found p q x le most full best = best_skipped (Past p) (Past q) k found best (further p q le) (λ d was. elim (split p q d was) [
     | inl one ↦ inl one
     | inr fresh ↦
         let its = most (position_of word.ids d.id) fresh.from fresh.upto fresh.within in
         let same = id_at word.ids d.id fresh.within in
         let (id, score) = rw same at its in
-        inr (id, omega (arith, score, adds p q d fresh))
+        inr (x, full, id, omega (arith, score, adds p q d fresh))
   ])
 
   -- one document cannot be among them
-  pub past_one_full : (found : List Scored) (place class part rest : ℕ) (x : Scored) → get_or word.ids place 0 ≡ x.id
-      → part_at word.table (get_or word.counts place 0) class ≡ part → get_or classes x.id 0 ≡ class → sum_by (part_in classes x.id) after ≤ rest
-      → part + rest ≤ x.score → IsFull k x found → AreBest (Past place) k found → AreBest (Past (place + 1)) k found
-  past_one_full found place class part rest x id its at more le full best = past_full found place (place + 1) x (omega arith) below full best
+  pub past_one_full : (found : List Scored) (position class part rest : ℕ) (x : Scored) → get_or word.ids position 0 ≡ x.id
+      → part_at word.table (get_or word.counts position 0) class ≡ part → get_or classes x.id 0 ≡ class → sum_by (part_in classes x.id) after ≤ rest
+      → part + rest ≤ x.score → IsFull k x found → AreBest (Past position) k found → AreBest (Past (position + 1)) k found
+  past_one_full found position class part rest x id its at more le full best = past_full found position (position + 1) x (omega arith) below full best
     where
-      its_part : part_at word.table (get_or word.counts place 0) (get_or classes x.id 0) ≡ part
-      its_part = ap (λ n. part_at word.table (get_or word.counts place 0) n) at ∙ its
+      its_part : part_at word.table (get_or word.counts position 0) (get_or classes x.id 0) ≡ part
+      its_part = ap (λ n. part_at word.table (get_or word.counts position 0) n) at ∙ its
 
-      here : IsBelow x place
+      here : IsBelow x position
       here = rw id (omega arith, omega (arith, its_part, more, le))
 
-      below : (i : ℕ) → place ≤ i → i < place + 1 → i < length word.ids → IsBelow x i
+      below : (i : ℕ) → position ≤ i → i < position + 1 → i < length word.ids → IsBelow x i
       below i from upto within =
-          let same : i ≡ place = omega (arith, from, upto) in
+          let same : i ≡ position = omega (arith, from, upto) in
           rw same here
 
   pub past_none : (found : List Scored) (p q : ℕ) → p ≤ q → ((d : Scored) → Fresh p q d → ⊥) → AreBest (Past p) k found → AreBest (Past q) k found
@@ -110,21 +110,21 @@ module _ (before : List Word) (word : Word) (after : List Word) (is : IsWord wor
         ];
       }) (further (length word.ids) p le)
 
-  module _ (place : ℕ) (x : Scored) (lt : place < length word.ids) (id : get_or word.ids place 0 ≡ x.id) where
-    pub its_place : position_of word.ids x.id ≡ place
-    its_place = sym (ap (λ n. position_of word.ids n) id) ∙ position_at word.ids (rising-increasing 0 (2 ^ 32) word.ids is.set.rising) place lt
+  module _ (position : ℕ) (x : Scored) (lt : position < length word.ids) (id : get_or word.ids position 0 ≡ x.id) where
+    pub its_position : position_of word.ids x.id ≡ position
+    its_position = sym (ap (λ n. position_of word.ids n) id) ∙ position_at word.ids (rising-increasing 0 (2 ^ 32) word.ids is.set.rising) position lt
 
     -- a fresh document there is this one
-    pub its_id : (d : Scored) → Fresh place (place + 1) d → d.id ≡ x.id
+    pub its_id : (d : Scored) → Fresh position (position + 1) d → d.id ≡ x.id
     its_id d fresh =
-        let at : position_of word.ids d.id ≡ place = omega (arith, fresh.from, fresh.upto) in
+        let at : position_of word.ids d.id ≡ position = omega (arith, fresh.from, fresh.upto) in
         omega (arith, id_at word.ids d.id fresh.within, ap (λ n. get_or word.ids n 0) at, id)
 
     -- it has one of the words before, or too few words
-    pub some_before : 0 < count_by (has_word x.id) before → (d : Scored) → Fresh place (place + 1) d → ⊥
+    pub some_before : 0 < count_by (has_word x.id) before → (d : Scored) → Fresh position (position + 1) d → ⊥
     some_before some d fresh = omega (arith, some, fresh.none, ap (λ n. count_by (has_word n) before) (its_id d fresh))
 
-    pub few_words : count_by (has_word x.id) after + 1 < at_least → (d : Scored) → Fresh place (place + 1) d → ⊥
+    pub few_words : count_by (has_word x.id) after + 1 < at_least → (d : Scored) → Fresh position (position + 1) d → ⊥
     few_words few d fresh =
         omega (
           arith,
@@ -137,11 +137,11 @@ module _ (before : List Word) (word : Word) (after : List Word) (is : IsWord wor
         )
 
     pub past_with : (found new : List Scored) → x.id < 2 ^ 32
-        → x.score ≡ part_at word.table (get_or word.counts place 0) (get_or classes x.id 0) + sum_by (part_in classes x.id) after
-        → count_by (has_word x.id) before ≡ 0 → at_least ≤ count_by (has_word x.id) after + 1 → IsKept k x found new → AreBest (Past place) k found
-        → AreBest (Past (place + 1)) k new
-    past_with found new small adds_up none enough kept best =
-        best_kept (Past place) (Past (place + 1)) k x found new best kept fresh (further place (place + 1) (omega arith)) this (λ d was. elim (split place (place + 1) d was) [
+        → x.score ≡ part_at word.table (get_or word.counts position 0) (get_or classes x.id 0) + sum_by (part_in classes x.id) after
+        → count_by (has_word x.id) before ≡ 0 → at_least ≤ count_by (has_word x.id) after + 1 → IsSelected k x found new → AreBest (Past position) k found
+        → AreBest (Past (position + 1)) k new
+    past_with found new small adds_up none enough selected best =
+        best_selected (Past position) (Past (position + 1)) k x found new best selected fresh (further position (position + 1) (omega arith)) this (λ d was. elim (split position (position + 1) d was) [
           | inl one ↦ inl one
           | inr new' ↦
               let same = its_id d new' in
@@ -149,7 +149,7 @@ module _ (before : List Word) (word : Word) (after : List Word) (is : IsWord wor
         ])
       where
         within : position_of word.ids x.id < length word.ids
-        within = omega (arith, its_place, lt)
+        within = omega (arith, its_position, lt)
 
         has_it : has_word x.id word ≡ true
         has_it = lt-ltb (position_of word.ids x.id) (length word.ids) within
@@ -157,26 +157,26 @@ module _ (before : List Word) (word : Word) (after : List Word) (is : IsWord wor
         one : ◌≡◌ {A = ℕ} (cond (has_word x.id word) 1 0) 1
         one = rw has_it refl
 
-        counted : get_or word.counts (position_of word.ids x.id) 0 ≡ get_or word.counts place 0
-        counted = ap (λ n. get_or word.counts n 0) its_place
+        counted : get_or word.counts (position_of word.ids x.id) 0 ≡ get_or word.counts position 0
+        counted = ap (λ n. get_or word.counts n 0) its_position
 
-        part : part_in classes x.id word ≡ part_at word.table (get_or word.counts place 0) (get_or classes x.id 0)
+        part : part_in classes x.id word ≡ part_at word.table (get_or word.counts position 0) (get_or classes x.id 0)
         part = part_here x.id within ∙ ap (λ n. part_at word.table n (get_or classes x.id 0)) counted
 
-        this : Past (place + 1) x
+        this : Past (position + 1) x
         this = record {
           hit = record {
             small = small;
             enough = omega (arith, enough, sum_all (λ t. cond (has_word x.id t) 1 0) before word after, one, none);
             adds_up = omega (arith, adds_up, part, sum_all (part_in classes x.id) before word after, no_parts classes x.id before none);
           };
-          past = inr (omega (arith, its_place), within);
+          past = inr (omega (arith, its_position), within);
         }
 
-        fresh : (d : Scored) → Past place d → d.id ≡ x.id → ⊥
+        fresh : (d : Scored) → Past position d → d.id ≡ x.id → ⊥
         fresh d was same = elim was.past [
           | inl some ↦ omega (arith, some, ap (λ n. count_by (has_word n) before) same, none)
-          | inr here ↦ omega (arith, here.0, ap (λ n. position_of word.ids n) same, its_place)
+          | inr here ↦ omega (arith, here.0, ap (λ n. position_of word.ids n) same, its_position)
         ]
 
 -- ---- the words of a query, one after the other
@@ -190,7 +190,7 @@ module _ {T : Type 0} (f : T → Word) (ts : List T) (i : ℕ) (x : T) (it : x �
   behind = take (length ts - (i + 1)) (drop (i + 1) ts)
 
   abbrev PastOne : ℕ → Scored → Type 0
-  PastOne place = IsPastIn (map f (take i ts)) (f x) (map f behind) classes at_least place
+  PastOne position = IsPastIn (map f (take i ts)) (f x) (map f behind) classes at_least position
 
   all : map f (take i ts) ++ f x ∷ map f behind ≡ map f ts
   all = ap (λ l. map f (take i ts) ++ f x ∷ map f l) (take_rest ts (i + 1)) ∙ split_words f ts i x it lt

@@ -35,6 +35,13 @@ module _ (table : List ℕ) (is : IsTable table) where
       let same : 256 * min most (n - 1) + min 0 255 ≡ 256 * min most (n - 1) = omega arith in
       omega (arith, step, ap (λ n. get_or table n 0) same)
 
+  pub part_rises : (count most class : ℕ) → count ≤ most → part_at table count class ≤ part_at table most class
+  part_rises count most class le =
+      let n : ℕ = length table / 256 in
+      let all : 256 * n ≡ length table = omega (arith, is.whole) in
+      let some : 1 ≤ n = omega (arith, is.some) in
+      up (min count (n - 1)) (min most (n - 1)) (min class 255) (omega arith) (omega arith) (omega arith)
+
   -- the last row has the greatest part of each class, and its first is the greatest of all
   pub part_last : (count class other : ℕ) → Covers class other → part_at table count other ≤ get_or table (length table - 256 + min class 255) 0
   part_last count class other covers =

@@ -1,6 +1,7 @@
 -- The best documents of a query by a score that adds up what each of its words is worth.
-use Rattle.std.specs.Prelude.{◌≡◌, ℕ, ◌^◌, ◌<◌, ◌≤◌, ◌⊎◌, ◌==◌, Bool, nat_lt, if◌then◌else◌, List, length, slice_index, slice_index_or, All, Contains}
+use Rattle.std.specs.Prelude.{◌≡◌, ℕ, ◌^◌, ◌<◌, ◌≤◌, ◌⊎◌, ◌==◌, Bool, true, nat_lt, if◌then◌else◌, List, length, slice_index, slice_index_or, All, Contains}
 use Rattle.std.specs.List.{count_by, position_or_len, sum_by}
+use Rattle.bitpack_sets.specs.Reads.{has}
 use Rattle.bitpack_ranked.specs.declared.found.Scored.{Scored}
 use Rattle.bitpack_ranked.specs.Scores.{part_at}
 use Rattle.bitpack_ranked.specs.Terms.{Word}
@@ -25,6 +26,15 @@ pub record IsHit (words : List Word) (classes : List ℕ) (at_least : ℕ) (docu
   pub small : document.id < 2 ^ 32
   pub enough : at_least ≤ count_by (has_word document.id) words
   pub adds_up : document.score ≡ sum_by (part_in classes document.id) words
+
+-- a document that passes a test, with its score
+pub record IsScored (test : ℕ → Bool) (words : List Word) (classes : List ℕ) (document : Scored) : Type 0 where
+  pub passes : test document.id ≡ true
+  pub adds_up : document.score ≡ sum_by (part_in classes document.id) words
+
+-- one of some documents, with its score
+abbrev pub IsAmong : List ℕ → List Word → List ℕ → Scored → Type 0
+IsAmong documents = IsScored (λ id. has id documents)
 
 -- one document comes before another: its score is greater, or it is the same and the id is lower
 abbrev pub ComesBefore : Scored → Scored → Type 0

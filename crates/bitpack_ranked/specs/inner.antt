@@ -1,3 +1,3 @@
 -- What inner contracts say.
-pub mod Keeping
+pub mod Selecting
 pub mod Walks

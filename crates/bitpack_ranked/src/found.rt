@@ -2,7 +2,7 @@
 
 ghost use Rattle.std.specs.Prelude.{◌≡◌, ◌↔◌, ◌+◌, ◌≤◌, IsTrue, length, min, take};
 ghost use Rattle.bitpack_ranked.specs.Ranked.{ComesBefore};
-ghost use Rattle.bitpack_ranked.specs.inner.Keeping.{IsKept, IsPlaceFor, TellsFull};
+ghost use Rattle.bitpack_ranked.specs.inner.Selecting.{ImpliesFull, IsPositionFor, IsSelected};
 
 /// A document with its score.
 #[repr(C)]
@@ -16,12 +16,12 @@ pub struct Scored {
 
 /// Puts a document after the ones among the first `len` that come before it, and retains as many as there is room for. Returns how many these
 /// are.
-pub(crate) fn keep(found: &mut [Scored], len: usize, document: Scored) -> usize
+pub(crate) fn select(found: &mut [Scored], len: usize, document: Scored) -> usize
     requires { len ≤ length found.old }
     ensures len { result ≡ min (length found.old) (len + 1) }
-    ensures kept { IsKept (length found.old) document (take len found.old) (take result found.new) }
+    ensures selected { IsSelected (length found.old) document (take len found.old) (take result found.new) }
 {
-    let at = place_for(&found[..len], document);
+    let at = position_for(&found[..len], document);
     if at >= found.len() {
         return len;
     }
@@ -32,8 +32,8 @@ pub(crate) fn keep(found: &mut [Scored], len: usize, document: Scored) -> usize
 }
 
 /// The index of the first document that comes after one, or the length if there is none.
-fn place_for(found: &[Scored], document: Scored) -> usize
-    ensures { IsPlaceFor document found.now result }
+fn position_for(found: &[Scored], document: Scored) -> usize
+    ensures { IsPositionFor document found.now result }
 {
     for index in 0..found.len() {
         if comes_before(document, found[index]) {
@@ -55,7 +55,7 @@ fn comes_before(one: Scored, other: Scored) -> bool
 #[inline(always)]
 pub(crate) fn is_full(found: &[Scored], len: usize, document: Scored) -> bool
     requires { len ≤ length found.now }
-    ensures { TellsFull (length found.now) document (take len found.now) result }
+    ensures { ImpliesFull (length found.now) document (take len found.now) result }
 {
     len == found.len() && (len == 0 || comes_before(found[len - 1], document))
 }

@@ -1,7 +1,10 @@
 //! Ranked search: the best documents of a query over id sets and columns, by a score that adds up what each word is worth.
 #![tactic(auto)]
 
+mod adding;
+mod among;
 mod as_term;
+mod bounds;
 mod found;
 mod others;
 mod parts;
@@ -11,6 +14,7 @@ mod walk;
 mod words;
 mod worked_scores;
 
+pub use among::best_among;
 pub use as_term::AsTerm;
 pub use found::Scored;
 pub use parts::{CLASSES, Parts};

@@ -6,7 +6,7 @@ ghost use Rattle.bitpack_sets.specs.Reads.{has};
 ghost use Rattle.bitpack_ranked.specs.Ranked.{has_word};
 
 use crate::as_term::AsTerm;
-use bitpack_sets::keep;
+use bitpack_sets::retain_if;
 
 /// Adds to the number of each id how many of the words it has.
 pub(crate) fn count_others<T: AsTerm>(terms: &[T], ids: &[u32], counts: &mut [usize])
@@ -43,7 +43,7 @@ fn copy_common<T: AsTerm>(term: &T, ids: &[u32], out: &mut [u32]) -> usize
     ensures ids { take result out.new ≡ filter (λ x. has x (T.its_word term.now).ids) ids.now }
 {
     out.copy_from_slice(ids);
-    keep(out, &term.ids(), true)
+    retain_if(out, &term.ids(), true)
 }
 
 /// Adds one to the numbers of the ids that are among these, which are in the same order.

@@ -6,7 +6,7 @@ ghost use Rattle.bitpack_ranked.specs.Ranked.{AreBest, IsHit, has_word};
 ghost use Rattle.bitpack_ranked.specs.inner.Walks.{HasPart, HasScore, IsAt, IsLow, IsPastIn, IsRest, IsUnpacked};
 
 use crate::as_term::AsTerm;
-use crate::found::{Scored, is_full, keep};
+use crate::found::{Scored, is_full, select};
 use crate::others::{count_others, fill};
 use crate::walk::{BLOCK, Walk, most_of};
 use crate::words::{count_words, rest_of, score};
@@ -212,11 +212,11 @@ impl<'a, T: AsTerm> Turn<'a, T> {
         requires others { count_by (has_word id) (map T.its_word self.now.after.now) ≤ most }
         requires len { len ≤ length found.old }
         ensures len { result ≤ length found.old }
-        ensures best { (place : ℕ) → IsAt (T.its_word self.now.term.now) place id count
+        ensures best { (position : ℕ) → IsAt (T.its_word self.now.term.now) position id count
             → AreBest (IsPastIn (map T.its_word self.now.before.now) (T.its_word self.now.term.now) (map T.its_word self.now.after.now)
-            self.now.classes.now self.now.at_least place) (length found.old) (take len found.old)
+            self.now.classes.now self.now.at_least position) (length found.old) (take len found.old)
             → AreBest (IsPastIn (map T.its_word self.now.before.now) (T.its_word self.now.term.now) (map T.its_word self.now.after.now)
-            self.now.classes.now self.now.at_least (place + 1)) (length found.old) (take result found.new) }
+            self.now.classes.now self.now.at_least (position + 1)) (length found.old) (take result found.new) }
     {
         let class = class_of(self.classes, id);
         let part = self.term.parts().part(count, class) as u64;
@@ -248,17 +248,17 @@ impl<'a, T: AsTerm> Turn<'a, T> {
         requires others { count_by (has_word id) (map T.its_word self.now.after.now) ≤ most }
         requires len { len ≤ length found.old }
         ensures len { result ≤ length found.old }
-        ensures best { (place : ℕ) → HasPart (T.its_word self.now.term.now) place id class part
+        ensures best { (position : ℕ) → HasPart (T.its_word self.now.term.now) position id class part
             → AreBest (IsPastIn (map T.its_word self.now.before.now) (T.its_word self.now.term.now) (map T.its_word self.now.after.now)
-            self.now.classes.now self.now.at_least place) (length found.old) (take len found.old)
+            self.now.classes.now self.now.at_least position) (length found.old) (take len found.old)
             → AreBest (IsPastIn (map T.its_word self.now.before.now) (T.its_word self.now.term.now) (map T.its_word self.now.after.now)
-            self.now.classes.now self.now.at_least (place + 1)) (length found.old) (take result found.new) }
+            self.now.classes.now self.now.at_least (position + 1)) (length found.old) (take result found.new) }
     {
         if most < self.at_least - 1 {
             return len;
         }
         if most == 0 {
-            return self.keep_document(id, part, 0, found, len);
+            return self.select_document(id, part, 0, found, len);
         }
         let rest = rest_of(self.after, class);
         if is_full(
@@ -272,11 +272,11 @@ impl<'a, T: AsTerm> Turn<'a, T> {
             return len;
         }
         let (others, words) = score(self.after, id, class);
-        self.keep_document(id, part + others, words, found, len)
+        self.select_document(id, part + others, words, found, len)
     }
 
     /// Puts a document among the best, by its score and how many of the words after it has, unless it has one of those before.
-    fn keep_document(
+    fn select_document(
         &self,
         id: u32,
         score: u64,
@@ -288,11 +288,11 @@ impl<'a, T: AsTerm> Turn<'a, T> {
         requires few { words < 2 ^ 32 }
         requires len { len ≤ length found.old }
         ensures len { result ≤ length found.old }
-        ensures best { (place : ℕ) → HasScore (T.its_word self.now.term.now) (map T.its_word self.now.after.now) self.now.classes.now place id score
+        ensures best { (position : ℕ) → HasScore (T.its_word self.now.term.now) (map T.its_word self.now.after.now) self.now.classes.now position id score
             → AreBest (IsPastIn (map T.its_word self.now.before.now) (T.its_word self.now.term.now) (map T.its_word self.now.after.now)
-            self.now.classes.now self.now.at_least place) (length found.old) (take len found.old)
+            self.now.classes.now self.now.at_least position) (length found.old) (take len found.old)
             → AreBest (IsPastIn (map T.its_word self.now.before.now) (T.its_word self.now.term.now) (map T.its_word self.now.after.now)
-            self.now.classes.now self.now.at_least (place + 1)) (length found.old) (take result found.new) }
+            self.now.classes.now self.now.at_least (position + 1)) (length found.old) (take result found.new) }
     {
         let document = Scored { score, id };
         if words + 1 < self.at_least {
@@ -304,13 +304,13 @@ impl<'a, T: AsTerm> Turn<'a, T> {
         if count_words(self.before, id) > 0 {
             return len;
         }
-        keep(found, len, document)
+        select(found, len, document)
     }
 }
 
 /// The class of the length of a document. Documents after the end of the list have the first class.
 #[inline(always)]
-fn class_of(classes: &[u8], id: u32) -> u32
+pub(crate) fn class_of(classes: &[u8], id: u32) -> u32
     ensures { result ≡ slice_index classes.now id }
 {
     let position = id as usize;

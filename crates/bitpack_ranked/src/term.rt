@@ -12,7 +12,7 @@ use crate::as_term::AsTerm;
 use crate::parts::Parts;
 use bitpack_columns::Column;
 use bitpack_sets::IdSet;
-use bitpack_sets::laws::one_text;
+use bitpack_sets::laws::one_encoding;
 
 /// A set and a column are not of one word: there are more ids than counts, or fewer.
 #[derive(Clone, Copy, PartialEq, Eq, Debug)]
@@ -40,7 +40,7 @@ impl<'a> Term<'a> {
         if set.len() != counts.len() {
             return Err(TermError);
         }
-        one_text();
+        one_encoding();
         Ok(Term { set, counts, parts })
     }
 }

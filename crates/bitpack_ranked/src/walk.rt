@@ -126,7 +126,7 @@ pub(crate) fn most_of<T: AsTerm>(term: &T, block: usize) -> u32
 }
 
 /// The greatest of some values.
-fn greatest(values: &[u32]) -> u32
+pub(crate) fn greatest(values: &[u32]) -> u32
     ensures { (k : ℕ) → k < length values.now → slice_index values.now k ≤ result }
 {
     let mut most = 0;

@@ -58,7 +58,7 @@ pub(crate) fn score<T: AsTerm>(terms: &[T], id: u32, class: u32) -> (u64, usize)
 }
 
 /// The part that the word adds to the score of a document, and 1, or 0 and 0 if the document lacks it.
-fn look_up<T: AsTerm>(term: &T, id: u32, class: u32) -> (u32, usize)
+pub(crate) fn look_up<T: AsTerm>(term: &T, id: u32, class: u32) -> (u32, usize)
     ensures part { (classes : List ℕ) → slice_index classes id ≡ class → result.0 ≡ part_in classes id (T.its_word term.now) }
     ensures word { result.1 ≡ (if has_word id (T.its_word term.now) then 1 else 0) }
     ensures small { (result.0 < 2 ^ 32) × (result.1 ≤ 1) }

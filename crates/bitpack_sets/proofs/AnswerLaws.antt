@@ -4,12 +4,12 @@ use Rattle.std.specs.List.{filter, range_with_len}
 use Rattle.std.proofs.lemmas.Bool.{cases_lt}
 use Rattle.std.proofs.lemmas.List.{append-nil, length-map, length-take-le, nil_from_length}
 use Rattle.bitpack_sets.proofs.BitmapLaws.{those_few, those_none, those_raised, those_split}
-use Rattle.bitpack_sets.proofs.CombineLaws.{holds_none}
-use Rattle.bitpack_sets.proofs.LoadLaws.{has_those, kept_same, those_rise}
+use Rattle.bitpack_sets.proofs.CombineLaws.{apply_none}
+use Rattle.bitpack_sets.proofs.LoadLaws.{filtered_same, has_those, those_rise}
 use Rattle.bitpack_sets.proofs.SelectionLaws.{map_zero}
 use Rattle.bitpack_sets.specs.Chunks.{lows_between}
-use Rattle.bitpack_sets.specs.Operations.{answer, holds, those}
-use Rattle.bitpack_sets.specs.Pairs.{IsPart, left, meets, places_left}
+use Rattle.bitpack_sets.specs.Operations.{answer, apply, those}
+use Rattle.bitpack_sets.specs.Pairs.{IsPart, left, meets, positions_left}
 use Rattle.bitpack_sets.specs.Reads.{has}
 use Rattle.bitpack_sets.specs.Sets.{IsRising}
 use Rattle.bitpack_sets.specs.declared.operation.Operation.{Operation}
@@ -21,7 +21,7 @@ use Rattle.bitpack_sets.specs.declared.pairing.Pair.{Pair}
 -- nothing of the answer is passed over
 pub record Skips (before after : Pair) : Type 0 where
   pub same : (x : ℕ) → left before x ≡ left after x
-  pub fewer : places_left after ≤ places_left before
+  pub fewer : positions_left after ≤ positions_left before
 
 pub moves : (f : ℕ → ℕ) (i j x y : ℕ) → x ≡ f i → y ≤ f j → x < y → i ≤ j → i < j
 moves f i j x y e h less le = elim (cases_lt i j) [ inl lt ↦ lt | inr ge ↦ (let same : j ≡ i = omega arith in let f_same : f j ≡ f i = ap f same in absurd (omega arith)) ]
@@ -32,36 +32,36 @@ fewer_of size i j more h w = omega arith
 pub fewer_after : (size i j more : ℕ) → i < j → j ≤ size → more + (size - j) < more + (size - i)
 fewer_after size i j more h w = omega arith
 
-pub none_left : (operation : Operation) (p : Bool) → holds operation true false ≡ false → holds operation p false ≡ false
+pub none_left : (operation : Operation) (p : Bool) → apply operation true false ≡ false → apply operation p false ≡ false
 none_left operation true h = h
-none_left operation false h = holds_none operation false false refl refl
+none_left operation false h = apply_none operation false false refl refl
 
-pub none_right : (operation : Operation) (q : Bool) → holds operation false true ≡ false → holds operation false q ≡ false
+pub none_right : (operation : Operation) (q : Bool) → apply operation false true ≡ false → apply operation false q ≡ false
 none_right operation true h = h
-none_right operation false h = holds_none operation false false refl refl
+none_right operation false h = apply_none operation false false refl refl
 
 -- ids of one set alone are passed over, if the answer has none
-pub pass_left : (operation : Operation) (p q r : Bool) (x key : ℕ) → holds operation true false ≡ false
-    → (x / 65536 < key → r ≡ false) → (key * 65536 ≤ x → p ≡ q) → holds operation p r ≡ holds operation q r
+pub pass_left : (operation : Operation) (p q r : Bool) (x key : ℕ) → apply operation true false ≡ false
+    → (x / 65536 < key → r ≡ false) → (key * 65536 ≤ x → p ≡ q) → apply operation p r ≡ apply operation q r
 pass_left operation p q r x key none below same = elim (cases_lt x (key * 65536)) [
   | inl less ↦ (let e : r ≡ false = below (omega arith) in
-      ap (holds operation p) e ∙ none_left operation p none ∙ sym (none_left operation q none) ∙ ap (holds operation q) (sym e))
-  | inr more ↦ ap (λ (b : Bool). holds operation b r) (same more)
+      ap (apply operation p) e ∙ none_left operation p none ∙ sym (none_left operation q none) ∙ ap (apply operation q) (sym e))
+  | inr more ↦ ap (λ (b : Bool). apply operation b r) (same more)
 ]
 
-pub pass_right : (operation : Operation) (p q r : Bool) (x key : ℕ) → holds operation false true ≡ false
-    → (x / 65536 < key → r ≡ false) → (key * 65536 ≤ x → p ≡ q) → holds operation r p ≡ holds operation r q
+pub pass_right : (operation : Operation) (p q r : Bool) (x key : ℕ) → apply operation false true ≡ false
+    → (x / 65536 < key → r ≡ false) → (key * 65536 ≤ x → p ≡ q) → apply operation r p ≡ apply operation r q
 pass_right operation p q r x key none below same = elim (cases_lt x (key * 65536)) [
   | inl less ↦ (let e : r ≡ false = below (omega arith) in
-      ap (λ (b : Bool). holds operation b p) e ∙ none_right operation p none ∙ sym (none_right operation q none) ∙ ap (λ (b : Bool). holds operation b q) (sym e))
-  | inr more ↦ ap (holds operation r) (same more)
+      ap (λ (b : Bool). apply operation b p) e ∙ none_right operation p none ∙ sym (none_right operation q none) ∙ ap (λ (b : Bool). apply operation b q) (sym e))
+  | inr more ↦ ap (apply operation r) (same more)
 ]
 
 -- ---- the numbers below a bound that pass a test
 
 pub those_same : (n : ℕ) (p q : ℕ → Bool) → ((x : ℕ) → x < n → p x ≡ q x) → those n p ≡ those n q
 unfolding those
-those_same n p q same = kept_same p q 0 n (λ x a b. same x (omega arith))
+those_same n p q same = filtered_same p q 0 n (λ x a b. same x (omega arith))
 
 pub none_pass : (n : ℕ) (p : ℕ → Bool) → ((x : ℕ) → x < n → p x ≡ false) → those n p ≡ []
 unfolding those
@@ -88,9 +88,9 @@ those_part n low size p q r room before own passed after =
     ∙ ap (λ (xs : List ℕ). xs ++ (filter p (range_with_len low size) ++ filter p (range_with_len (low + size) more))) (those_none p 0 low (λ x a b. before x (omega arith)))
     ∙ ap (λ (xs : List ℕ). xs ++ filter p (range_with_len (low + size) more))
     (ap (λ (l : ℕ). filter p (range_with_len l size)) (sym zero_low) ∙ those_raised p low 0 size
-    ∙ ap (map (λ i. low + i)) (kept_same (λ i. p (low + i)) q 0 size (λ x a b. own x (omega arith))))
+    ∙ ap (map (λ i. low + i)) (filtered_same (λ i. p (low + i)) q 0 size (λ x a b. own x (omega arith))))
     ∙ ap (λ (xs : List ℕ). map (λ i. low + i) (filter q (range_with_len 0 size)) ++ xs)
-    (kept_same p r (low + size) more (λ x a b. after x a (omega arith))
+    (filtered_same p r (low + size) more (λ x a b. after x a (omega arith))
     ∙ sym (ap (λ (m : ℕ). filter r (range_with_len 0 m)) all ∙ cut r low size more
     ∙ ap (λ (xs : List ℕ). xs ++ (filter r (range_with_len low size) ++ filter r (range_with_len (low + size) more))) (those_none r 0 low (λ x a b. passed x (omega arith)))
     ∙ ap (λ (xs : List ℕ). xs ++ filter r (range_with_len (low + size) more)) (those_none r low size (λ x a b. passed x (omega arith)))))
@@ -103,21 +103,21 @@ listed_rise xs p e = subst (λ (ys : List ℕ). IsRising 0 256 ys) (sym (e ∙ m
 pub listed_has : (xs : List ℕ) (p : ℕ → Bool) (x : ℕ) → xs ≡ map (λ i. 0 + i) (those 256 p) → x < 256 → has x xs ≡ p x
 listed_has xs p x e h = ap (has x) (e ∙ map_zero (those 256 p)) ∙ has_those p x 256 h
 
-pub each : (operation : Operation) (p p' q q' : Bool) → p ≡ p' → q ≡ q' → holds operation p q ≡ holds operation p' q'
-each operation p p' q q' e f = ap (λ (b : Bool). holds operation b q) e ∙ ap (holds operation p') f
+pub each : (operation : Operation) (p p' q q' : Bool) → p ≡ p' → q ≡ q' → apply operation p q ≡ apply operation p' q'
+each operation p p' q q' e f = ap (λ (b : Bool). apply operation b q) e ∙ ap (apply operation p') f
 
 -- two bodies that have the numbers of a key tell what the answer has of it
 pub meets_same : (pair : Pair) (meeting : Meeting) (xs ys : List ℕ) → xs ≡ lows_between pair.a meeting.a.0 meeting.a.1 → ys ≡ lows_between pair.b meeting.b.0 meeting.b.1
-    → those 65536 (λ x. holds pair.operation (has x xs) (has x ys)) ≡ those 65536 (meets pair meeting)
+    → those 65536 (λ x. apply pair.operation (has x xs) (has x ys)) ≡ those 65536 (meets pair meeting)
 meets_same pair meeting xs ys e f =
-    those_same 65536 (λ x. holds pair.operation (has x xs) (has x ys)) (meets pair meeting)
+    those_same 65536 (λ x. apply pair.operation (has x xs) (has x ys)) (meets pair meeting)
     (λ x h. each pair.operation (has x xs) (has x (lows_between pair.a meeting.a.0 meeting.a.1)) (has x ys) (has x (lows_between pair.b meeting.b.0 meeting.b.1)) (ap (has x) e) (ap (has x) f))
 
 -- ---- the answer chunk by chunk
 
 pub answer_left : (operation : Operation) (xs xs' ys ys' : List ℕ) (more : ℕ → Bool) → xs' ≡ xs → ys' ≡ ys
-    → ((x : ℕ) → more x ≡ holds operation (has x xs') (has x ys')) → answer operation xs ys ≡ those (2 ^ 32) more
-answer_left operation xs xs' ys ys' more e f same = those_same (2 ^ 32) (λ x. holds operation (has x xs) (has x ys)) more
+    → ((x : ℕ) → more x ≡ apply operation (has x xs') (has x ys')) → answer operation xs ys ≡ those (2 ^ 32) more
+answer_left operation xs xs' ys ys' more e f same = those_same (2 ^ 32) (λ x. apply operation (has x xs) (has x ys)) more
     (λ x h. each operation (has x xs) (has x xs') (has x ys) (has x ys') (ap (has x) (sym e)) (ap (has x) (sym f)) ∙ sym (same x))
 
 pub part_first : (key : ℕ) (test before after : ℕ → Bool) → IsPart key test before after
@@ -166,7 +166,7 @@ counted_all count all more so none =
     omega arith
 
 pub answer_few : (operation : Operation) (xs ys : List ℕ) → length (answer operation xs ys) ≤ 2 ^ 32
-answer_few operation xs ys = those_few (2 ^ 32) (λ x. holds operation (has x xs) (has x ys))
+answer_few operation xs ys = those_few (2 ^ 32) (λ x. apply operation (has x xs) (has x ys))
 
 pub none_counted : (all : List ℕ) (more : ℕ → Bool) → Counted 0 all more → ((x : ℕ) → x < 2 ^ 32 → more x ≡ false) → all ≡ []
 none_counted all more so none = nil_from_length all (sym (counted_all 0 all more so none))

@@ -19,28 +19,28 @@ use Rattle.bitpack_groups.proofs.ForCallers.{passed}
 
 -- ---- order
 
-rising_none : (place low high x : ℕ) (xs : List ℕ) → low ≤ x → Below high (x ∷ xs) → first_fall place (x ∷ xs) ≡ None → IsRising low high (x ∷ xs)
+rising_none : (position low high x : ℕ) (xs : List ℕ) → low ≤ x → Below high (x ∷ xs) → first_fall position (x ∷ xs) ≡ None → IsRising low high (x ∷ xs)
 unfolding first_fall
-rising_none place low high x [] a (l, m) h = (a, omega arith)
-rising_none place low high x (y ∷ ys) a (l, m) h = elim (cases_lt x y) [
+rising_none position low high x [] a (l, m) h = (a, omega arith)
+rising_none position low high x (y ∷ ys) a (l, m) h = elim (cases_lt x y) [
   | inl less ↦ (
     a,
-    rising_none (place + 1) (x + 1) high y ys (omega arith) m
-        (sym (ap (λ (b : Bool). cond b (Some (place + 1)) (first_fall (place + 1) (y ∷ ys))) (lt-leb y x less)) ∙ h),
+    rising_none (position + 1) (x + 1) high y ys (omega arith) m
+        (sym (ap (λ (b : Bool). cond b (Some (position + 1)) (first_fall (position + 1) (y ∷ ys))) (lt-leb y x less)) ∙ h),
   )
-  | inr more ↦ absurd (true≢false (ap is_some (sym (ap (λ (b : Bool). cond b (Some (place + 1)) (first_fall (place + 1) (y ∷ ys))) (le-leb y x more)) ∙ h)))
+  | inr more ↦ absurd (true≢false (ap is_some (sym (ap (λ (b : Bool). cond b (Some (position + 1)) (first_fall (position + 1) (y ∷ ys))) (le-leb y x more)) ∙ h)))
 ]
 
-pub rises_from : (place high : ℕ) (xs : List ℕ) → Below high xs → first_fall place xs ≡ None → IsRising 0 high xs
-rises_from place high [] b h = omega arith
-rises_from place high (x ∷ xs) b h = rising_none place 0 high x xs (omega arith) b h
+pub rises_from : (position high : ℕ) (xs : List ℕ) → Below high xs → first_fall position xs ≡ None → IsRising 0 high xs
+rises_from position high [] b h = omega arith
+rises_from position high (x ∷ xs) b h = rising_none position 0 high x xs (omega arith) b h
 
-pub no_fall : (place low high : ℕ) (xs : List ℕ) → IsRising low high xs → first_fall place xs ≡ None
+pub no_fall : (position low high : ℕ) (xs : List ℕ) → IsRising low high xs → first_fall position xs ≡ None
 unfolding first_fall
-no_fall place low high [] r = refl
-no_fall place low high (x ∷ []) r = refl
-no_fall place low high (x ∷ y ∷ ys) (a, (b, r)) =
-    ap (λ (t : Bool). cond t (Some (place + 1)) (first_fall (place + 1) (y ∷ ys))) (lt-leb y x (omega arith)) ∙ no_fall (place + 1) (x + 1) high (y ∷ ys) (b, r)
+no_fall position low high [] r = refl
+no_fall position low high (x ∷ []) r = refl
+no_fall position low high (x ∷ y ∷ ys) (a, (b, r)) =
+    ap (λ (t : Bool). cond t (Some (position + 1)) (first_fall (position + 1) (y ∷ ys))) (lt-leb y x (omega arith)) ∙ no_fall (position + 1) (x + 1) high (y ∷ ys) (b, r)
 
 -- ---- integers of four bytes
 
@@ -115,11 +115,11 @@ array_no_fault one bytes are h =
     let (small, front, only) = one bytes are sound in
     let rest : List ℕ = drop (number_end bytes) bytes in
     let (size, rising, count, apart, back) = ids_none (number_value bytes) rest (bytes_dropped (number_end bytes) bytes (bytes_are bytes are)) b in
-    let text : array (quads_of rest) ≡ 6 ∷ bytes =
+    let encoding : array (quads_of rest) ≡ 6 ∷ bytes =
     array_parts (quads_of rest) ∙ ap (λ (n : ℕ). 6 ∷ (number n ++ flat_map (le_bytes 4) (quads_of rest))) count
     ∙ ap (λ (l : List ℕ). 6 ∷ (number (number_value bytes) ++ l)) back ∙ ap (λ (l : List ℕ). 6 ∷ (l ++ rest)) (sym front)
     ∙ ap (λ (l : List ℕ). 6 ∷ l) (take-append-drop (number_end bytes) bytes) in
-    record { rising = rising; many = omega arith; few = omega arith; apart = subst (λ (n : ℕ). n < 4 * length (parts (2 ^ 16) (quads_of rest))) (sym count) apart; text = text }
+    record { rising = rising; many = omega arith; few = omega arith; apart = subst (λ (n : ℕ). n < 4 * length (parts (2 ^ 16) (quads_of rest))) (sym count) apart; encoding = encoding }
 
 pub none_count : (bytes : List ℕ) → number_fault bytes ≡ None → 128 ≤ number_value bytes → number_value bytes ≤ 2 ^ 28 → count_fault bytes ≡ None
 unfolding count_fault
@@ -147,11 +147,11 @@ unfolding array_fault
 no_fault_array back bytes ids is =
     let many = is.many in
     let few = is.few in
-    let text : bytes ≡ number (length ids) ++ flat_map (le_bytes 4) ids = array_tails _ _ (sym is.text ∙ array_parts ids) in
+    let encoding : bytes ≡ number (length ids) ++ flat_map (le_bytes 4) ids = array_tails _ _ (sym is.encoding ∙ array_parts ids) in
     let (sound, value, end) = back (length ids) (flat_map (le_bytes 4) ids) (omega arith) in
-    let value' : number_value bytes ≡ length ids = ap number_value text ∙ value in
-    let end' : number_end bytes ≡ length (number (length ids)) = ap number_end text ∙ end in
+    let value' : number_value bytes ≡ length ids = ap number_value encoding ∙ value in
+    let end' : number_end bytes ≡ length (number (length ids)) = ap number_end encoding ∙ end in
     let rest : drop (number_end bytes) bytes ≡ flat_map (le_bytes 4) ids =
-    ap (λ (n : ℕ). drop n bytes) end' ∙ ap (drop (length (number (length ids)))) text ∙ drop_at (number (length ids)) (flat_map (le_bytes 4) ids) (length (number (length ids))) refl in
-    none_or _ _ (none_count bytes (ap number_fault text ∙ sound) (omega arith) (omega arith))
+    ap (λ (n : ℕ). drop n bytes) end' ∙ ap (drop (length (number (length ids)))) encoding ∙ drop_at (number (length ids)) (flat_map (le_bytes 4) ids) (length (number (length ids))) refl in
+    none_or _ _ (none_count bytes (ap number_fault encoding ∙ sound) (omega arith) (omega arith))
     (ap (λ (n : ℕ). ids_fault n (drop (number_end bytes) bytes)) value' ∙ none_ids ids (drop (number_end bytes) bytes) is.rising is.apart rest)

@@ -10,7 +10,7 @@ use Rattle.std.proofs.lemmas.Nat.Bits.{bit_at-zero, bit_at_ones, bit_at_set_othe
 use Rattle.std.proofs.lemmas.Nat.{and_mask, one_shl}
 use Rattle.bitpack_sets.proofs.CountLaws.{ones_counted, ones_length}
 use Rattle.bitpack_sets.proofs.DecodeLaws.{bytes_dropped}
-use Rattle.bitpack_sets.proofs.LoadLaws.{eqb_turned, kept_same}
+use Rattle.bitpack_sets.proofs.LoadLaws.{eqb_turned, filtered_same}
 use Rattle.bitpack_sets.proofs.ReadLaws.{bit_of_bytes, has_all, has_append, has_bit as bits_bit}
 use Rattle.bitpack_sets.proofs.SliceLaws.{rising_room}
 use Rattle.bitpack_sets.proofs.TestLaws.{bytes_taken}
@@ -34,11 +34,11 @@ unfolding has_bit
 has_written words q v k h e =
     ap (λ (j : ℕ). eqb (bit_at (get_or (set words q v) j 0) (k % 64)) 1) e ∙ ap (λ (w : ℕ). eqb (bit_at w (k % 64)) 1) (get_or-set_same words q v 0 h)
 
-pub has_kept : (words : List ℕ) (q v k : ℕ) → k / 64 ≢ q → has_bit (set words q v) k ≡ has_bit words k
+pub has_unchanged : (words : List ℕ) (q v k : ℕ) → k / 64 ≢ q → has_bit (set words q v) k ≡ has_bit words k
 unfolding has_bit
-has_kept words q v k ne = ap (λ (w : ℕ). eqb (bit_at w (k % 64)) 1) (get_or-set_other words q (k / 64) v 0 ne)
+has_unchanged words q v k ne = ap (λ (w : ℕ). eqb (bit_at w (k % 64)) 1) (get_or-set_other words q (k / 64) v 0 ne)
 
--- the bit of a word that is known by its place
+-- the bit of a word that is known by its position
 pub has_of : (words : List ℕ) (q k : ℕ) → k / 64 ≡ q → has_bit words k ≡ eqb (bit_at (get_or words q 0) (k % 64)) 1
 unfolding has_bit
 has_of words q k e = ap (λ (j : ℕ). eqb (bit_at (get_or words j 0) (k % 64)) 1) e
@@ -62,7 +62,7 @@ set_is words i k h = elim (cases_eq (k / 64) (i / 64)) [
         ∙ sym (ap (λ (b : Bool). b || has_bit words k) (ne_eqb k i (λ e. other (ap (λ (n : ℕ). n % 64) e))))
   ]
   | inr there ↦
-      has_kept words (i / 64) (bit_or (get_or words (i / 64) 0) (1 * 2 ^ (i % 64) % 2 ^ 64)) k there
+      has_unchanged words (i / 64) (bit_or (get_or words (i / 64) 0) (1 * 2 ^ (i % 64) % 2 ^ 64)) k there
       ∙ sym (ap (λ (b : Bool). b || has_bit words k) (ne_eqb k i (λ e. there (ap (λ (n : ℕ). n / 64) e))))
 ]
 
@@ -128,9 +128,9 @@ unfolding ones_from
 word_numbers words q r h =
     let e : 64 * q ≡ 64 * q + 0 = omega arith in
     ap (λ (k : ℕ). filter (has_bit words) (range_with_len k r)) e ∙ those_raised (has_bit words) (64 * q) 0 r
-    ∙ ap (map (λ i. 64 * q + i)) (kept_same (λ i. has_bit words (64 * q + i)) (λ i. eqb (bit_at (get_or words q 0) i) 1) 0 r (λ x l m.
-    let place : (64 * q + x) % 64 ≡ x = omega arith in
-    has_of words q (64 * q + x) (omega arith) ∙ ap (λ (k : ℕ). eqb (bit_at (get_or words q 0) k) 1) place))
+    ∙ ap (map (λ i. 64 * q + i)) (filtered_same (λ i. has_bit words (64 * q + i)) (λ i. eqb (bit_at (get_or words q 0) i) 1) 0 r (λ x l m.
+    let position : (64 * q + x) % 64 ≡ x = omega arith in
+    has_of words q (64 * q + x) (omega arith) ∙ ap (λ (k : ℕ). eqb (bit_at (get_or words q 0) k) 1) position))
 
 pub those_more : (words : List ℕ) (q r : ℕ) → r ≤ 64
     → those (64 * q + r) (has_bit words) ≡ those (64 * q) (has_bit words) ++ map (λ i. 64 * q + i) (ones_from (get_or words q 0) 0 r)
@@ -200,11 +200,11 @@ pub four_words : (bytes : List ℕ) (r s t u : ℕ) → IsWord bytes 0 r → IsW
     → EachByte bytes → length bytes ≡ 32 → (i : ℕ) → i < 256 → has_bit (r ∷ s ∷ t ∷ u ∷ []) i ≡ has i (ones_from (number_of bytes) 0 256)
 unfolding has_bit
 four_words bytes r s t u c d e f are size i small =
-    let place : 8 * (i / 64) + i % 64 / 8 ≡ i / 8 = omega arith in
+    let position : 8 * (i / 64) + i % 64 / 8 ≡ i / 8 = omega arith in
     let rest : i % 64 % 8 ≡ i % 8 = omega arith in
     ap (λ (w : ℕ). eqb (bit_at w (i % 64)) 1) (word_of bytes r s t u c d e f (i / 64) (omega arith))
     ∙ ap (λ (b : ℕ). eqb b 1) (word_bit bytes (i / 64) (i % 64) are (omega arith) (omega arith)
-    ∙ ap (λ (k : ℕ). bit_at (get_or bytes k 0) (i % 64 % 8)) place ∙ ap (bit_at (get_or bytes (i / 8) 0)) rest)
+    ∙ ap (λ (k : ℕ). bit_at (get_or bytes k 0) (i % 64 % 8)) position ∙ ap (bit_at (get_or bytes (i / 8) 0)) rest)
     ∙ sym (bits_bit bytes i are size small)
 
 all_at : (n w q : ℕ) → q < n → get_or (replicate n w) q 0 ≡ w

@@ -38,7 +38,7 @@ build_slices [] [] bytes e are = sym are
 build_slices [] (less ∷ counts) bytes e are = absurd (omega arith)
 build_slices (h ∷ hs) [] bytes e are = absurd (omega arith)
 build_slices (h ∷ hs) (less ∷ counts) bytes e (room, is, later) =
-    ap (λ (l : List ℕ). l ++ flat_map (λ part. slice part.1) (build hs counts (drop (slice_len (less + 1)) bytes))) is.text
+    ap (λ (l : List ℕ). l ++ flat_map (λ part. slice part.1) (build hs counts (drop (slice_len (less + 1)) bytes))) is.encoding
     ∙ ap (λ (l : List ℕ). take (slice_len (less + 1)) bytes ++ l) (build_slices hs counts (drop (slice_len (less + 1)) bytes) (omega arith) later)
     ∙ take-append-drop (slice_len (less + 1)) bytes
 
@@ -54,9 +54,9 @@ fits : (size many all left : ℕ) → left ≡ all - (1 + size) → 1 + size + m
 fits size many all left e h = omega arith
 
 -- bytes that are tested as blocks are the blocks of the parts that are read
-pub blocks_text : (count : ℕ) (body : List ℕ) → IsBlocks count body → (ps : List (ℕ × List ℕ)) × AreParts 256 0 256 ps × (blocks_of ps ≡ body)
+pub blocks_encoding : (count : ℕ) (body : List ℕ) → IsBlocks count body → (ps : List (ℕ × List ℕ)) × AreParts 256 0 256 ps × (blocks_of ps ≡ body)
 unfolding blocks_of
-blocks_text count body is =
+blocks_encoding count body is =
     let first : ℕ = get_or body 0 0 in
     let many : ℕ = first + 1 in
     let size : ℕ = slice_len many in
@@ -83,7 +83,7 @@ blocks_text count body is =
       ps,
       build_are 0 hs counts bytes same is.highs.rising is.slices,
       ap (λ (l : List ℕ). (length ps - 1) ∷ ((slice l ++ map (λ part. length part.1 - 1) ps) ++ flat_map (λ part. slice part.1) ps)) h
-          ∙ ap (λ (l : List ℕ). (length ps - 1) ∷ ((l ++ map (λ part. length part.1 - 1) ps) ++ flat_map (λ part. slice part.1) ps)) is.highs.text
+          ∙ ap (λ (l : List ℕ). (length ps - 1) ∷ ((l ++ map (λ part. length part.1 - 1) ps) ++ flat_map (λ part. slice part.1) ps)) is.highs.encoding
           ∙ ap (λ (l : List ℕ). (length ps - 1) ∷ ((front ++ l) ++ flat_map (λ part. slice part.1) ps)) c
           ∙ ap (λ (l : List ℕ). (length ps - 1) ∷ ((front ++ counts) ++ l)) s
           ∙ ap (λ (m : ℕ). m ∷ ((front ++ counts) ++ bytes)) n
@@ -96,5 +96,5 @@ pub blocks_are : (count : ℕ) (body : List ℕ) → IsBlocks count body
     (take (get_or body 0 0 + 1) (drop (1 + slice_len (get_or body 0 0 + 1)) body)) (drop (1 + slice_len (get_or body 0 0 + 1) + (get_or body 0 0 + 1)) body))
     × (blocks_of (build (slice_numbers (get_or body 0 0 + 1) (take (slice_len (get_or body 0 0 + 1)) (drop 1 body)))
     (take (get_or body 0 0 + 1) (drop (1 + slice_len (get_or body 0 0 + 1)) body)) (drop (1 + slice_len (get_or body 0 0 + 1) + (get_or body 0 0 + 1)) body)) ≡ body)
-unfolding blocks_text
-blocks_are count body is = ((blocks_text count body is).1, (blocks_text count body is).2)
+unfolding blocks_encoding
+blocks_are count body is = ((blocks_encoding count body is).1, (blocks_encoding count body is).2)

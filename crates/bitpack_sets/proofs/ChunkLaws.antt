@@ -7,7 +7,7 @@ use Rattle.bitpack_sets.proofs.DecodeLaws.{bytes_dropped, number_bits}
 use Rattle.bitpack_sets.proofs.EntryLaws.{body_len, ends_grow, sums_grow}
 use Rattle.bitpack_sets.proofs.JoinLaws.{join_rises, parts_join}
 use Rattle.bitpack_sets.proofs.LongLaws.{after_counts, bodies, counts, ends, join_len, keys, long_parts, total}
-use Rattle.bitpack_sets.proofs.LongLaws as texts
+use Rattle.bitpack_sets.proofs.LongLaws as encodings
 use Rattle.bitpack_sets.proofs.PartLaws.{AreParts}
 use Rattle.bitpack_sets.proofs.ShortLaws.{Grows, before_next, map_map, map_same, short_is, shorts_back, step_of, steps_summed, steps_taken, steps_total}
 use Rattle.bitpack_sets.proofs.Words.{EachByte}
@@ -81,7 +81,7 @@ module _ (ids chunks : ℕ) (rest : List ℕ) (are : EachByte rest) (is : IsRest
   bodies_in : bodies chunks_in ≡ map (body_at chunks rest) (range_with_len 0 chunks)
   bodies_in =
       map_map (λ (part : ℕ × List ℕ). body part.1) (chunk_at chunks rest) 0 chunks
-      ∙ map_same (λ m. body (body_numbers_of (count_at chunks rest m) (body_at chunks rest m))) (body_at chunks rest) 0 chunks (λ i low high. (is.bodies i (omega arith)).text)
+      ∙ map_same (λ m. body (body_numbers_of (count_at chunks rest m) (body_at chunks rest m))) (body_at chunks rest) 0 chunks (λ i low high. (is.bodies i (omega arith)).encoding)
 
   sizes_in : map length (bodies chunks_in) ≡ map (step_of (end_at chunks rest)) (range_with_len 0 chunks)
   sizes_in =
@@ -110,10 +110,10 @@ module _ (ids chunks : ℕ) (rest : List ℕ) (are : EachByte rest) (is : IsRest
   pub count_is : length chunks_in ≡ chunks
   count_is = length-map-range_with_len (chunk_at chunks rest) 0 chunks
 
-  -- ---- their text
+  -- ---- their encoding
 
-  bodies_text : concat (bodies chunks_in) ≡ drop start rest
-  bodies_text =
+  bodies_encoding : concat (bodies chunks_in) ≡ drop start rest
+  bodies_encoding =
       let e : 0 + chunks ≡ chunks = omega arith in
       let here : start + before (end_at chunks rest) 0 ≡ start = omega arith in
       let size : before (end_at chunks rest) (0 + chunks) - before (end_at chunks rest) 0 ≡ length (drop start rest) = (let all = is.end in let f = ap (before (end_at chunks rest)) e in omega (arith, length-drop start rest)) in
@@ -121,10 +121,10 @@ module _ (ids chunks : ℕ) (rest : List ℕ) (are : EachByte rest) (is : IsRest
       ∙ ap (λ (n : ℕ). take (before (end_at chunks rest) (0 + chunks) - before (end_at chunks rest) 0) (drop n rest)) here
       ∙ ap (λ (n : ℕ). take n (drop start rest)) size ∙ take_all (length (drop start rest)) (drop start rest) (omega arith)
 
-  end_size_is : texts.end_size chunks_in ≡ end_size rest
+  end_size_is : encodings.end_size chunks_in ≡ end_size rest
   end_size_is =
       let all = is.end in
-      let size : length (concat (bodies chunks_in)) ≡ before (end_at chunks rest) chunks = ap length bodies_text ∙ omega (arith, length-drop start rest) in
+      let size : length (concat (bodies chunks_in)) ≡ before (end_at chunks rest) chunks = ap length bodies_encoding ∙ omega (arith, length-drop start rest) in
       ap byte_count size ∙ sym is.end_least
 
   ends_in : ends chunks_in ≡ map (end_at chunks rest) (range_with_len 0 chunks)
@@ -133,39 +133,39 @@ module _ (ids chunks : ℕ) (rest : List ℕ) (are : EachByte rest) (is : IsRest
   sums_in : sums 0 (counts chunks_in) ≡ map (sum_at chunks rest) (range_with_len 0 chunks)
   sums_in = ap (sums 0) counts_in ∙ steps_summed (sum_at chunks rest) 0 chunks sums_up
 
-  pub keys_text : flat_map (le_bytes 2) (keys chunks_in) ≡ take (2 * chunks) (drop 1 rest)
-  keys_text =
+  pub keys_encoding : flat_map (le_bytes 2) (keys chunks_in) ≡ take (2 * chunks) (drop 1 rest)
+  keys_encoding =
       let room = is.directory.room in
       ap (flat_map (le_bytes 2)) keys_in ∙ shorts_all 2 chunks (drop 1 rest) (bytes_dropped 1 rest are) (omega (arith, length-drop 1 rest))
 
-  ends_text : flat_map (le_bytes (texts.end_size chunks_in)) (ends chunks_in) ≡ take (end_size rest * chunks) (drop (1 + 2 * chunks) rest)
-  ends_text =
+  ends_encoding : flat_map (le_bytes (encodings.end_size chunks_in)) (ends chunks_in) ≡ take (end_size rest * chunks) (drop (1 + 2 * chunks) rest)
+  ends_encoding =
       let room = is.directory.room in
       ap (λ (n : ℕ). flat_map (le_bytes n) (ends chunks_in)) end_size_is ∙ ap (flat_map (le_bytes (end_size rest))) ends_in
       ∙ shorts_all (end_size rest) chunks (drop (1 + 2 * chunks) rest) (bytes_dropped (1 + 2 * chunks) rest are) (omega (arith, length-drop (1 + 2 * chunks) rest))
 
-  sums_text : flat_map (le_bytes (byte_count ids)) (sums 0 (counts chunks_in)) ≡ take (sum_size rest * chunks) (drop (1 + (2 + end_size rest) * chunks) rest)
-  sums_text =
+  sums_encoding : flat_map (le_bytes (byte_count ids)) (sums 0 (counts chunks_in)) ≡ take (sum_size rest * chunks) (drop (1 + (2 + end_size rest) * chunks) rest)
+  sums_encoding =
       let room = is.directory.room in
       ap (λ (n : ℕ). flat_map (le_bytes n) (sums 0 (counts chunks_in))) (sym is.sum_least) ∙ ap (flat_map (le_bytes (sum_size rest))) sums_in
       ∙ shorts_all (sum_size rest) chunks (drop (1 + (2 + end_size rest) * chunks) rest) (bytes_dropped (1 + (2 + end_size rest) * chunks) rest are) (omega (arith, length-drop (1 + (2 + end_size rest) * chunks) rest))
 
   -- what is after the counts is the rest
-  pub rest_text : after_counts ids chunks_in ≡ rest
-  rest_text =
+  pub rest_encoding : after_counts ids chunks_in ≡ rest
+  rest_encoding =
       let room = is.directory.room in
       let first : rest ≡ get_or rest 0 0 ∷ drop 1 rest = drop_more rest 0 0 (omega arith) in
-      let sizes : texts.end_size chunks_in + 16 * byte_count ids ≡ get_or rest 0 0 = (let a = end_size_is in let b = is.sum_least in omega arith) in
+      let sizes : encodings.end_size chunks_in + 16 * byte_count ids ≡ get_or rest 0 0 = (let a = end_size_is in let b = is.sum_least in omega arith) in
       let c1 = cut (sum_size rest * chunks) (1 + (2 + end_size rest) * chunks) start rest (omega arith) in
       let c2 = cut (end_size rest * chunks) (1 + 2 * chunks) (1 + (2 + end_size rest) * chunks) rest (omega arith) in
       let c3 = cut (2 * chunks) 1 (1 + 2 * chunks) rest refl in
-      ap (λ (n : ℕ). n ∷ (flat_map (le_bytes 2) (keys chunks_in) ++ (flat_map (le_bytes (texts.end_size chunks_in)) (ends chunks_in) ++ (flat_map (le_bytes (byte_count ids)) (sums 0 (counts chunks_in)) ++ concat (bodies chunks_in))))) sizes
-      ∙ ap (λ (l : List ℕ). get_or rest 0 0 ∷ (flat_map (le_bytes 2) (keys chunks_in) ++ (flat_map (le_bytes (texts.end_size chunks_in)) (ends chunks_in) ++ (flat_map (le_bytes (byte_count ids)) (sums 0 (counts chunks_in)) ++ l)))) bodies_text
-      ∙ ap (λ (l : List ℕ). get_or rest 0 0 ∷ (flat_map (le_bytes 2) (keys chunks_in) ++ (flat_map (le_bytes (texts.end_size chunks_in)) (ends chunks_in) ++ (l ++ drop start rest)))) sums_text
-      ∙ ap (λ (l : List ℕ). get_or rest 0 0 ∷ (flat_map (le_bytes 2) (keys chunks_in) ++ (flat_map (le_bytes (texts.end_size chunks_in)) (ends chunks_in) ++ l))) c1
-      ∙ ap (λ (l : List ℕ). get_or rest 0 0 ∷ (flat_map (le_bytes 2) (keys chunks_in) ++ (l ++ drop (1 + (2 + end_size rest) * chunks) rest))) ends_text
+      ap (λ (n : ℕ). n ∷ (flat_map (le_bytes 2) (keys chunks_in) ++ (flat_map (le_bytes (encodings.end_size chunks_in)) (ends chunks_in) ++ (flat_map (le_bytes (byte_count ids)) (sums 0 (counts chunks_in)) ++ concat (bodies chunks_in))))) sizes
+      ∙ ap (λ (l : List ℕ). get_or rest 0 0 ∷ (flat_map (le_bytes 2) (keys chunks_in) ++ (flat_map (le_bytes (encodings.end_size chunks_in)) (ends chunks_in) ++ (flat_map (le_bytes (byte_count ids)) (sums 0 (counts chunks_in)) ++ l)))) bodies_encoding
+      ∙ ap (λ (l : List ℕ). get_or rest 0 0 ∷ (flat_map (le_bytes 2) (keys chunks_in) ++ (flat_map (le_bytes (encodings.end_size chunks_in)) (ends chunks_in) ++ (l ++ drop start rest)))) sums_encoding
+      ∙ ap (λ (l : List ℕ). get_or rest 0 0 ∷ (flat_map (le_bytes 2) (keys chunks_in) ++ (flat_map (le_bytes (encodings.end_size chunks_in)) (ends chunks_in) ++ l))) c1
+      ∙ ap (λ (l : List ℕ). get_or rest 0 0 ∷ (flat_map (le_bytes 2) (keys chunks_in) ++ (l ++ drop (1 + (2 + end_size rest) * chunks) rest))) ends_encoding
       ∙ ap (λ (l : List ℕ). get_or rest 0 0 ∷ (flat_map (le_bytes 2) (keys chunks_in) ++ l)) c2
-      ∙ ap (λ (l : List ℕ). get_or rest 0 0 ∷ (l ++ drop (1 + 2 * chunks) rest)) keys_text
+      ∙ ap (λ (l : List ℕ). get_or rest 0 0 ∷ (l ++ drop (1 + 2 * chunks) rest)) keys_encoding
       ∙ ap (λ (l : List ℕ). get_or rest 0 0 ∷ l) c3 ∙ sym first
 
   -- ---- their ids
@@ -179,11 +179,11 @@ module _ (ids chunks : ℕ) (rest : List ℕ) (are : EachByte rest) (is : IsRest
   pub ids_rise : IsRising 0 (2 ^ 32) (chunk_ids chunks rest)
   ids_rise = join_rises 65536 0 65536 chunks_in are_parts
 
-  pub ids_text : in_chunks (chunk_ids chunks rest) ≡ 5 ∷ (number ids ++ (number chunks ++ rest))
-  ids_text =
+  pub ids_encoding : in_chunks (chunk_ids chunks rest) ≡ 5 ∷ (number ids ++ (number chunks ++ rest))
+  ids_encoding =
       let ps : List (ℕ × List ℕ) = parts 65536 (chunk_ids chunks rest) in
       long_parts (chunk_ids chunks rest)
       ∙ ap (λ (n : ℕ). 5 ∷ (number n ++ (number (length ps) ++ after_counts n ps))) ids_count
       ∙ ap (λ (qs : List (ℕ × List ℕ)). 5 ∷ (number ids ++ (number (length qs) ++ after_counts ids qs))) ids_parts
       ∙ ap (λ (n : ℕ). 5 ∷ (number ids ++ (number n ++ after_counts ids chunks_in))) count_is
-      ∙ ap (λ (l : List ℕ). 5 ∷ (number ids ++ (number chunks ++ l))) rest_text
+      ∙ ap (λ (l : List ℕ). 5 ∷ (number ids ++ (number chunks ++ l))) rest_encoding

@@ -6,12 +6,12 @@ use Rattle.std.proofs.lemmas.List.{append-nil}
 use Rattle.std.proofs.lemmas.List.FromFn.{get_or-map-range_with_len, take-map-range_with_len}
 use Rattle.bitpack_sets.proofs.BodyLaws.{body_blocks, body_numbers, numbers_len}
 use Rattle.bitpack_sets.proofs.EntryLaws.{ends_grow, grown_to, sums_grow}
-use Rattle.bitpack_sets.proofs.ChunkLaws.{are_parts, counts_in, keys_text}
+use Rattle.bitpack_sets.proofs.ChunkLaws.{are_parts, counts_in, keys_encoding}
 use Rattle.bitpack_sets.proofs.JoinReads.{has_join, has_join_not, keys_rise, none, rank_join, rank_join_not}
 use Rattle.bitpack_sets.proofs.LongLaws.{counts, keys, total}
 use Rattle.bitpack_sets.proofs.ShortLaws.{Grows, before_next, step_of, steps_total}
 use Rattle.bitpack_sets.proofs.TestLaws.{blocks_are_blocks}
-use Rattle.bitpack_sets.proofs.ToldLaws.{numbers_back}
+use Rattle.bitpack_sets.proofs.KnownLaws.{numbers_back}
 use Rattle.bitpack_sets.proofs.Words.{EachByte}
 use Rattle.bitpack_sets.specs.Directory.{before, bodies_start, body_at, body_numbers_of, chunk_at, chunk_ids, count_at, end_at, ids_of_chunks, key_at, size_at, sum_at}
 use Rattle.bitpack_sets.specs.Reads.{has, rank}
@@ -28,11 +28,11 @@ blocks_read count bytes some is ne =
     let xs : List ℕ = body_numbers_of count bytes in
     let read : xs ≡ block_numbers bytes = ap (λ (b : Bool). cond b (pairs_of bytes) (block_numbers bytes)) (ne_eqb (length bytes) (2 * count) ne) in
     let size : length xs ≡ count = is.count_is in
-    let text : blocks xs ≡ bytes = elim (cases_lt (length (blocks xs)) (2 * length xs)) [
-      | inl less ↦ sym (body_blocks xs less) ∙ is.text
-      | inr more ↦ absurd (ne (sym (ap length (sym (body_numbers xs more) ∙ is.text)) ∙ numbers_len xs ∙ ap (λ (n : ℕ). 2 * n) size))
+    let encoding : blocks xs ≡ bytes = elim (cases_lt (length (blocks xs)) (2 * length xs)) [
+      | inl less ↦ sym (body_blocks xs less) ∙ is.encoding
+      | inr more ↦ absurd (ne (sym (ap length (sym (body_numbers xs more) ∙ is.encoding)) ∙ numbers_len xs ∙ ap (λ (n : ℕ). 2 * n) size))
     ] in
-    let here : IsBlocks (length xs) bytes = subst (IsBlocks (length xs)) text (blocks_are_blocks xs is.rising (omega arith)) in
+    let here : IsBlocks (length xs) bytes = subst (IsBlocks (length xs)) encoding (blocks_are_blocks xs is.rising (omega arith)) in
     (subst (λ (l : List ℕ). IsBlocks (length l) bytes) read here, ap length (sym read) ∙ size, read)
 
 -- a body as the code tells it from numbers
@@ -41,9 +41,9 @@ pub record HasBlocks (count : ℕ) (bytes body : List ℕ) : Type 0 where
   pub size : length (block_numbers body) ≡ count
   pub read : block_numbers body ≡ body_numbers_of count bytes
 
-pub blocks_told : (ids chunks m sum prior : ℕ) (rest body : List ℕ) → IsRest ids chunks rest → m < chunks → sum ≡ sum_at chunks rest m → prior ≡ before (sum_at chunks rest) m
+pub blocks_known : (ids chunks m sum prior : ℕ) (rest body : List ℕ) → IsRest ids chunks rest → m < chunks → sum ≡ sum_at chunks rest m → prior ≡ before (sum_at chunks rest) m
     → body ≡ body_at chunks rest m → (length body ≡ 2 * (sum - prior) → ⊥) → HasBlocks (count_at chunks rest m) (body_at chunks rest m) body
-blocks_told ids chunks m sum prior rest body is lt s p e ne =
+blocks_known ids chunks m sum prior rest body is lt s p e ne =
     let own : sum - prior ≡ count_at chunks rest m = omega arith in
     let (are, size, read) = blocks_read (count_at chunks rest m) (body_at chunks rest m) (is.entries m lt).some (is.bodies m lt) (λ h. ne (ap length e ∙ h ∙ ap (λ (n : ℕ). 2 * n) (sym own))) in
     record {
@@ -55,9 +55,9 @@ blocks_told ids chunks m sum prior rest body is lt s p e ne =
 pub numbers_read : (count : ℕ) (bytes : List ℕ) → length bytes ≡ 2 * count → body_numbers_of count bytes ≡ pairs_of bytes
 numbers_read count bytes e = ap (λ (b : Bool). cond b (pairs_of bytes) (block_numbers bytes)) (eq-eqb (length bytes) (2 * count) e)
 
-pub numbers_told : (chunks m sum prior : ℕ) (rest body : List ℕ) → sum ≡ sum_at chunks rest m → prior ≡ before (sum_at chunks rest) m → body ≡ body_at chunks rest m
+pub numbers_known : (chunks m sum prior : ℕ) (rest body : List ℕ) → sum ≡ sum_at chunks rest m → prior ≡ before (sum_at chunks rest) m → body ≡ body_at chunks rest m
     → length body ≡ 2 * (sum - prior) → pairs_of body ≡ body_numbers_of (count_at chunks rest m) (body_at chunks rest m)
-numbers_told chunks m sum prior rest body s p e same =
+numbers_known chunks m sum prior rest body s p e same =
     let own : sum - prior ≡ count_at chunks rest m = omega arith in
     ap pairs_of e ∙ sym (numbers_read (count_at chunks rest m) (body_at chunks rest m) (sym (ap length e) ∙ same ∙ ap (λ (n : ℕ). 2 * n) own))
 
@@ -127,7 +127,7 @@ pub keys_read : (ids chunks : ℕ) (rest : List ℕ) → EachByte rest → IsRes
 unfolding numbers
 keys_read ids chunks rest are is =
     let rises : IsRising 0 65536 (keys (read_chunks chunks rest)) = keys_rise 65536 0 65536 (read_chunks chunks rest) (are_parts ids chunks rest are is) in
-    sym (ap pairs_of (keys_text ids chunks rest are is)) ∙ numbers_back 0 (keys (read_chunks chunks rest)) rises
+    sym (ap pairs_of (keys_encoding ids chunks rest are is)) ∙ numbers_back 0 (keys (read_chunks chunks rest)) rises
 
 pub keys_rise_in : (ids chunks : ℕ) (rest : List ℕ) → EachByte rest → IsRest ids chunks rest → IsRising 0 65536 (pairs_of (take (2 * chunks) (drop 1 rest)))
 keys_rise_in ids chunks rest are is = subst (IsRising 0 65536) (sym (keys_read ids chunks rest are is)) (keys_rise 65536 0 65536 (read_chunks chunks rest) (are_parts ids chunks rest are is))

@@ -72,7 +72,7 @@ some_numbers count bytes h k = sym (cond_above count 32 _ _ _ h (cond_below coun
 pub few_slice : (count : ℕ) (bytes : List ℕ) → count < 32 → length bytes ≡ count → IsRising 0 256 bytes → IsSlice count bytes
 few_slice count bytes few size rises =
     let e = few_numbers count bytes few in
-    record { rising = subst (IsRising 0 256) (sym e) rises; count_is = ap length e ∙ size; text = ap slice e ∙ slice_few bytes (omega arith) }
+    record { rising = subst (IsRising 0 256) (sym e) rises; count_is = ap length e ∙ size; encoding = ap slice e ∙ slice_few bytes (omega arith) }
 
 -- 32 to 255: as many bits are 1
 pub some_slice : (count : ℕ) (bytes : List ℕ) → 32 ≤ count → count < 256 → length bytes ≡ 32 → EachByte bytes → bits_in bytes ≡ count → IsSlice count bytes
@@ -85,7 +85,7 @@ some_slice count bytes more some size are counted =
     record {
       rising = subst (IsRising 0 256) (sym e) (ones_rise (number_of bytes) 0 256);
       count_is = ap length e ∙ many;
-      text = ap slice e ∙ slice_some (ones_from (number_of bytes) 0 256) (omega arith) (omega arith) ∙ ap (le_bytes 32) (ones_all (number_of bytes) 256 small) ∙ back;
+      encoding = ap slice e ∙ slice_some (ones_from (number_of bytes) 0 256) (omega arith) (omega arith) ∙ ap (le_bytes 32) (ones_all (number_of bytes) 256 small) ∙ back;
     }
 
 -- and only then
@@ -137,7 +137,7 @@ full_rise = all_rise 0 256
 
 -- a full slice has no bytes
 pub full_slice : (bytes : List ℕ) → length bytes ≡ 0 → IsSlice 256 bytes
-full_slice [] h = record { rising = full_rise; count_is = refl; text = slice_many (range_with_len 0 256) (lit≤ tt) }
+full_slice [] h = record { rising = full_rise; count_is = refl; encoding = slice_many (range_with_len 0 256) (lit≤ tt) }
 full_slice (x ∷ xs) h = absurd (omega arith)
 
 pub bits_drop : (xs : List ℕ) (i : ℕ) → i < length xs → bits_in (drop i xs) ≡ count_ones (get_or xs i 0) + bits_in (drop (i + 1) xs)

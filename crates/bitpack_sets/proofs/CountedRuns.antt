@@ -93,10 +93,10 @@ test_far : (most x : ℕ) (xs : List ℕ) → most ≤ length xs → last_test m
 test_far most x xs many = sym (cond_above (length xs) most 1 _ _ many refl)
 
 pub differ : (m n : ℕ) → m ≢ n → ◌≡◌ {A = ℕ} (cond (eqb m n) 0 1) 1
-differ m n h = elim (eqb_tells m n) [ inl (is, holds) ↦ absurd (h holds) | inr (is, fails) ↦ ap (λ b. cond b 0 1) is ]
+differ m n h = elim (eqb_tells m n) [ inl (is, fact) ↦ absurd (h fact) | inr (is, fails) ↦ ap (λ b. cond b 0 1) is ]
 
 pub agree : (m n : ℕ) → m ≡ n → ◌≡◌ {A = ℕ} (cond (eqb m n) 0 1) 0
-agree m n h = elim (eqb_tells m n) [ inl (is, holds) ↦ ap (λ b. cond b 0 1) is | inr (is, fails) ↦ absurd (fails h) ]
+agree m n h = elim (eqb_tells m n) [ inl (is, fact) ↦ ap (λ b. cond b 0 1) is | inr (is, fails) ↦ absurd (fails h) ]
 
 pub lasts_few : (most : ℕ) (xs : List ℕ) → length xs ≤ most → lasts most xs ≡ length xs
 lasts_few most [] few = refl
@@ -111,8 +111,8 @@ pub lasts_more : (most i : ℕ) (xs : List ℕ) → 0 < most → i + most < leng
 lasts_more most i xs some lt =
     let later : List ℕ = drop (i + 1) xs in
     let size = length-drop (i + 1) xs in
-    let place : i + 1 + (most - 1) ≡ most + i = omega arith in
-    let there : get_or later (most - 1) 0 ≡ get_or xs (most + i) 0 = get_drop (i + 1) (most - 1) xs ∙ ap (λ k. get_or xs k 0) place in
+    let position : i + 1 + (most - 1) ≡ most + i = omega arith in
+    let there : get_or later (most - 1) 0 ≡ get_or xs (most + i) 0 = get_drop (i + 1) (most - 1) xs ∙ ap (λ k. get_or xs k 0) position in
     ap (lasts most) (drop_more xs i 0 (omega arith)) ∙ lasts_next most (get_or xs i 0) later
     ∙ ap (λ n. n + lasts most later) (test_far most (get_or xs i 0) later (omega arith) ∙ ap (λ n. cond (eqb (n / 256) (get_or xs i 0 / 256)) 0 1) there)
 

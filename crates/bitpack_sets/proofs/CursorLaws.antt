@@ -97,21 +97,21 @@ has_passed x y low high (z ∷ xs) (a, r) h = elim (cases_lt z y) [
 -- ---- a walk over the ids of a slice
 
 -- the bits of a slice are those of its ids so far
-pub record IsMarked (xs : List ℕ) (slice next : ℕ) (words : List ℕ) : Type 0 where
+pub record IsBitmapOf (xs : List ℕ) (slice next : ℕ) (words : List ℕ) : Type 0 where
   pub from : rank (256 * slice) xs ≤ next
   pub to : next ≤ rank (256 * slice + 256) xs
   pub bits : (i : ℕ) → i < 256 → has_bit words i ≡ has (256 * slice + i) (take next xs)
 
-pub marked_start : (xs : List ℕ) (slice next : ℕ) (words : List ℕ) → IsRising 0 (2 ^ 32) xs → next ≡ rank (256 * slice) xs → ((i : ℕ) → has_bit words i ≡ false) → IsMarked xs slice next words
-marked_start xs slice next words r e none = record {
+pub bitmap_start : (xs : List ℕ) (slice next : ℕ) (words : List ℕ) → IsRising 0 (2 ^ 32) xs → next ≡ rank (256 * slice) xs → ((i : ℕ) → has_bit words i ≡ false) → IsBitmapOf xs slice next words
+bitmap_start xs slice next words r e none = record {
   from = omega arith;
   to = let up = rank_up (256 * slice) (256 * slice + 256) xs (omega arith) in omega arith;
   bits = λ i small. none i ∙ sym (ap (λ (n : ℕ). has (256 * slice + i) (take n xs)) e ∙ has_passed (256 * slice + i) (256 * slice) 0 (2 ^ 32) xs r (omega arith));
 }
 
-pub marked_more : (xs : List ℕ) (slice next id bit : ℕ) (words more : List ℕ) → IsRising 0 (2 ^ 32) xs → IsMarked xs slice next words → next < length xs → id ≡ get_or xs next 0
-    → id / 256 ≡ slice → bit ≡ id % 256 → ((k : ℕ) → has_bit more k ≡ (eqb k bit || has_bit words k)) → IsMarked xs slice (next + 1) more
-marked_more xs slice next id bit words more r so lt e own low set = record {
+pub bitmap_more : (xs : List ℕ) (slice next id bit : ℕ) (words more : List ℕ) → IsRising 0 (2 ^ 32) xs → IsBitmapOf xs slice next words → next < length xs → id ≡ get_or xs next 0
+    → id / 256 ≡ slice → bit ≡ id % 256 → ((k : ℕ) → has_bit more k ≡ (eqb k bit || has_bit words k)) → IsBitmapOf xs slice (next + 1) more
+bitmap_more xs slice next id bit words more r so lt e own low set = record {
   from = let before = so.from in omega arith;
   to = rank_above (256 * slice + 256) 0 (2 ^ 32) next xs r lt (omega arith);
   bits = λ i small.
@@ -120,9 +120,9 @@ marked_more xs slice next id bit words more r so lt e own low set = record {
       ∙ has_more (256 * slice + i) xs next lt;
 }
 
-pub marked_end : (xs : List ℕ) (slice next : ℕ) (words : List ℕ) → IsRising 0 (2 ^ 32) xs → IsMarked xs slice next words → (next < length xs → get_or xs next 0 / 256 ≢ slice)
+pub bitmap_end : (xs : List ℕ) (slice next : ℕ) (words : List ℕ) → IsRising 0 (2 ^ 32) xs → IsBitmapOf xs slice next words → (next < length xs → get_or xs next 0 / 256 ≢ slice)
     → next ≡ rank (256 * slice + 256) xs
-marked_end xs slice next words r so other =
+bitmap_end xs slice next words r so other =
     let before = so.from in
     let after = so.to in
     let most = rank_le (256 * slice + 256) xs in
@@ -138,9 +138,9 @@ marked_end xs slice next words r so other =
       | inr past ↦ omega arith
     ]
 
-pub marked_all : (xs : List ℕ) (slice next : ℕ) (words : List ℕ) → IsRising 0 (2 ^ 32) xs → IsMarked xs slice next words → next ≡ rank (256 * slice + 256) xs
+pub bitmap_all : (xs : List ℕ) (slice next : ℕ) (words : List ℕ) → IsRising 0 (2 ^ 32) xs → IsBitmapOf xs slice next words → next ≡ rank (256 * slice + 256) xs
     → (i : ℕ) → i < 256 → has_bit words i ≡ has (256 * slice + i) xs
-marked_all xs slice next words r so e i small =
+bitmap_all xs slice next words r so e i small =
     so.bits i small ∙ ap (λ (n : ℕ). has (256 * slice + i) (take n xs)) e
     ∙ sym (has_front (256 * slice + i) (256 * slice + 256) 0 (2 ^ 32) xs r (omega arith))
 

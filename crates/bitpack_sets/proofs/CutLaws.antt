@@ -4,7 +4,7 @@ use Rattle.std.proofs.lemmas.Bool.{cases_lt, cond_above, cond_below}
 use Rattle.std.proofs.lemmas.List.{take_more, take_rest, length-take-le}
 use Rattle.bitpack_sets.specs.Slices.{block_numbers, numbers_of, slice_len, slice_numbers, slices_len}
 
--- ---- the place of a slice
+-- ---- the offset of a slice
 
 pub len_few : (count : ℕ) → slice_len count ≤ 32
 len_few count = elim (cases_lt count 32) [
@@ -32,10 +32,10 @@ lens_more counts i h =
     omega arith
 
 -- a slice as it is cut
-pub slice_cut : (count place size from : ℕ) (bytes : List ℕ) → place ≡ from → size ≡ slice_len count → take (place + size - place) (drop place bytes) ≡ take (slice_len count) (drop from bytes)
-slice_cut count place size from bytes e f =
-    let less : place + size - place ≡ slice_len count = omega arith in
-    ap (λ (m : ℕ). take m (drop place bytes)) less ∙ ap (λ (m : ℕ). take (slice_len count) (drop m bytes)) e
+pub slice_cut : (count offset size from : ℕ) (bytes : List ℕ) → offset ≡ from → size ≡ slice_len count → take (offset + size - offset) (drop offset bytes) ≡ take (slice_len count) (drop from bytes)
+slice_cut count offset size from bytes e f =
+    let less : offset + size - offset ≡ slice_len count = omega arith in
+    ap (λ (m : ℕ). take m (drop offset bytes)) less ∙ ap (λ (m : ℕ). take (slice_len count) (drop m bytes)) e
 
 -- ---- the parts of a body as they are cut
 

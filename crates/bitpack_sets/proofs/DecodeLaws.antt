@@ -115,36 +115,36 @@ rising_top low high i [] r h = absurd (omega arith)
 rising_top low high zero (x ∷ xs) (a, r) h = let room = rising_room (x + 1) high xs r in omega arith
 rising_top low high (suc i) (x ∷ xs) (a, r) h = rising_top (x + 1) high i xs r (omega arith)
 
-pub parts_step : (base i place : ℕ) (hs counts bytes : List ℕ) → i < length hs → i < length counts
-    → map (λ j. base + j) (numbers_of (drop i hs) (drop i counts) (drop place bytes))
-    ≡ map (λ j. base + 256 * get_or hs i 0 + j) (slice_numbers (get_or counts i 0 + 1) (take (slice_len (get_or counts i 0 + 1)) (drop place bytes)))
-    ++ map (λ j. base + j) (numbers_of (drop (i + 1) hs) (drop (i + 1) counts) (drop (place + slice_len (get_or counts i 0 + 1)) bytes))
+pub parts_step : (base i position : ℕ) (hs counts bytes : List ℕ) → i < length hs → i < length counts
+    → map (λ j. base + j) (numbers_of (drop i hs) (drop i counts) (drop position bytes))
+    ≡ map (λ j. base + 256 * get_or hs i 0 + j) (slice_numbers (get_or counts i 0 + 1) (take (slice_len (get_or counts i 0 + 1)) (drop position bytes)))
+    ++ map (λ j. base + j) (numbers_of (drop (i + 1) hs) (drop (i + 1) counts) (drop (position + slice_len (get_or counts i 0 + 1)) bytes))
 unfolding numbers_of
-parts_step base i place hs counts bytes h k =
+parts_step base i position hs counts bytes h k =
     let f : List ℕ → List ℕ = map (λ j. base + j) in
     let high : ℕ = get_or hs i 0 in
     let count : ℕ = get_or counts i 0 + 1 in
-    let low : List ℕ = slice_numbers count (take (slice_len count) (drop place bytes)) in
-    let rest : List ℕ = numbers_of (drop (i + 1) hs) (drop (i + 1) counts) (drop (slice_len count) (drop place bytes)) in
+    let low : List ℕ = slice_numbers count (take (slice_len count) (drop position bytes)) in
+    let rest : List ℕ = numbers_of (drop (i + 1) hs) (drop (i + 1) counts) (drop (slice_len count) (drop position bytes)) in
     let e : base + high * 256 ≡ base + 256 * high = omega arith in
-    ap (λ (l : List ℕ). f (numbers_of l (drop i counts) (drop place bytes))) (drop_more hs i 0 h)
-    ∙ ap (λ (l : List ℕ). f (numbers_of (high ∷ drop (i + 1) hs) l (drop place bytes))) (drop_more counts i 0 k)
+    ap (λ (l : List ℕ). f (numbers_of l (drop i counts) (drop position bytes))) (drop_more hs i 0 h)
+    ∙ ap (λ (l : List ℕ). f (numbers_of (high ∷ drop (i + 1) hs) l (drop position bytes))) (drop_more counts i 0 k)
     ∙ map-append (λ j. base + j) (map (λ j. high * 256 + j) low) rest
     ∙ ap (λ (l : List ℕ). l ++ f rest) (map_raised base (high * 256) low)
     ∙ ap (λ (m : ℕ). map (λ j. m + j) low ++ f rest) e
-    ∙ ap (λ (l : List ℕ). map (λ j. base + 256 * high + j) low ++ f (numbers_of (drop (i + 1) hs) (drop (i + 1) counts) l)) (drop-drop (slice_len count) place bytes)
+    ∙ ap (λ (l : List ℕ). map (λ j. base + 256 * high + j) low ++ f (numbers_of (drop (i + 1) hs) (drop (i + 1) counts) l)) (drop-drop (slice_len count) position bytes)
 
-pub slices_step : (i place : ℕ) (counts bytes : List ℕ) → AreSlices (drop i counts) (drop place bytes) → i < length counts → place ≤ length bytes
-    → (place + slice_len (get_or counts i 0 + 1) ≤ length bytes) × AreSlices (drop (i + 1) counts) (drop (place + slice_len (get_or counts i 0 + 1)) bytes)
-slices_step i place counts bytes are h within =
+pub slices_step : (i position : ℕ) (counts bytes : List ℕ) → AreSlices (drop i counts) (drop position bytes) → i < length counts → position ≤ length bytes
+    → (position + slice_len (get_or counts i 0 + 1) ≤ length bytes) × AreSlices (drop (i + 1) counts) (drop (position + slice_len (get_or counts i 0 + 1)) bytes)
+slices_step i position counts bytes are h within =
     let count : ℕ = get_or counts i 0 + 1 in
-    let (room, is, later) = subst (λ (l : List ℕ). AreSlices l (drop place bytes)) (drop_more counts i 0 h) are in
-    (omega (arith, length-drop place bytes), subst (λ (l : List ℕ). AreSlices (drop (i + 1) counts) l) (drop-drop (slice_len count) place bytes) later)
+    let (room, is, later) = subst (λ (l : List ℕ). AreSlices l (drop position bytes)) (drop_more counts i 0 h) are in
+    (omega (arith, length-drop position bytes), subst (λ (l : List ℕ). AreSlices (drop (i + 1) counts) l) (drop-drop (slice_len count) position bytes) later)
 
-pub slice_here : (i place : ℕ) (counts bytes : List ℕ) → AreSlices (drop i counts) (drop place bytes) → i < length counts
-    → IsSlice (get_or counts i 0 + 1) (take (slice_len (get_or counts i 0 + 1)) (drop place bytes))
-slice_here i place counts bytes are h =
-    let (room, is, later) = subst (λ (l : List ℕ). AreSlices l (drop place bytes)) (drop_more counts i 0 h) are in
+pub slice_here : (i position : ℕ) (counts bytes : List ℕ) → AreSlices (drop i counts) (drop position bytes) → i < length counts
+    → IsSlice (get_or counts i 0 + 1) (take (slice_len (get_or counts i 0 + 1)) (drop position bytes))
+slice_here i position counts bytes are h =
+    let (room, is, later) = subst (λ (l : List ℕ). AreSlices l (drop position bytes)) (drop_more counts i 0 h) are in
     is
 
 pub parts_done : (base i n : ℕ) (hs counts bytes out : List ℕ) → length counts ≤ i → length hs ≤ i

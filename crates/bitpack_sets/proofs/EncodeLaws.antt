@@ -7,24 +7,24 @@ use Rattle.std.proofs.lemmas.List.{append-nil, drop_all, drop_at, take_all, take
 use Rattle.bitpack_sets.proofs.LongFilled.{array_size, chunks_length}
 use Rattle.bitpack_sets.proofs.LongLaws.{long_array, long_chunks}
 use Rattle.bitpack_sets.specs.declared.set_error.SetError.{SetError}
-use Rattle.bitpack_sets.specs.Sets.{array, in_chunks, long, parts, short, text}
+use Rattle.bitpack_sets.specs.Sets.{array, encoding, in_chunks, long, parts, short}
 use Rattle.bitpack_sets.specs.Varints.{byte_count, number}
 use Rattle.bitpack_sets.specs.Written.{IsMeasured, bodies, refusal}
 
 -- ---- the three forms
 
-pub few_is : (ids : List ℕ) → length ids ≤ 127 → text ids ≡ short ids
-unfolding text
+pub few_is : (ids : List ℕ) → length ids ≤ 127 → encoding ids ≡ short ids
+unfolding encoding
 few_is ids h = let few : length ids < 128 = omega arith in sym (cond_below (length ids) 128 (short ids) (long ids) few)
 
-many_is : (ids : List ℕ) → 127 < length ids → text ids ≡ long ids
-unfolding text
+many_is : (ids : List ℕ) → 127 < length ids → encoding ids ≡ long ids
+unfolding encoding
 many_is ids h = let many : 128 ≤ length ids = omega arith in sym (cond_above (length ids) 128 (short ids) (long ids) _ many refl)
 
-pub array_is : (ids : List ℕ) (chunks : ℕ) → 127 < length ids → chunks ≡ length (parts 65536 ids) → length ids < 4 * chunks → text ids ≡ array ids
+pub array_is : (ids : List ℕ) (chunks : ℕ) → 127 < length ids → chunks ≡ length (parts 65536 ids) → length ids < 4 * chunks → encoding ids ≡ array ids
 array_is ids chunks many e h = many_is ids many ∙ long_array ids (omega arith)
 
-pub chunks_is : (ids : List ℕ) (chunks : ℕ) → 127 < length ids → chunks ≡ length (parts 65536 ids) → 4 * chunks ≤ length ids → text ids ≡ in_chunks ids
+pub chunks_is : (ids : List ℕ) (chunks : ℕ) → 127 < length ids → chunks ≡ length (parts 65536 ids) → 4 * chunks ≤ length ids → encoding ids ≡ in_chunks ids
 chunks_is ids chunks many e h = many_is ids many ∙ long_chunks ids (omega arith)
 
 -- ---- what is measured
@@ -62,11 +62,11 @@ chunks_measured ids len chunks size many a b few small more e = record {
 -- ---- what calls leave
 
 pub accepted : (ids : List ℕ) {P : Type 0} (Q : SetError → Type 0) → refusal ids ≡ None → P → MatchOption (refusal ids) P Q
-accepted ids Q none holds = rw none holds
+accepted ids Q none fact = rw none fact
 
 pub on_err : {A E P : Type 0} (result : Result A E) → is_err result ≡ true → OnErr result P → P
-on_err (Ok x) e holds = absurd cc
-on_err (Err x) e holds = holds
+on_err (Ok x) e fact = absurd cc
+on_err (Err x) e fact = fact
 
 -- zeros at the end of a vector that are written over
 pub written_over : (old zeros items new : List ℕ) (from len : ℕ) → items ≡ old ++ zeros → from ≡ length old → length new ≡ length zeros → len ≡ length items

@@ -76,8 +76,8 @@ run_so_far ids ends index slot before apart =
       within = omega arith;
       shared = λ k lt. ap (λ x. x / 256) (get_drop begin k ids) ∙ before.shared (begin + k) (omega arith) (omega arith) ∙ sym first;
       apart = λ lt e.
-          let place : begin + (index - begin) ≡ index = omega arith in
-          let there = ap (λ x. x / 256) (get_drop begin (index - begin) ids ∙ ap (λ n. get_or ids n 0) place) in
+          let position : begin + (index - begin) ≡ index = omega arith in
+          let there = ap (λ x. x / 256) (get_drop begin (index - begin) ids ∙ ap (λ n. get_or ids n 0) position) in
           apart (omega arith) (sym there ∙ e ∙ first);
     }
 
@@ -122,14 +122,14 @@ ends_apart ids ends index slot before lt apart =
     let begin : ℕ = before.begin in
     let some = before.before in
     let run = run_so_far ids ends index slot before (λ h e. apart (e ∙ sym (before.shared (index - 1) (omega arith) (omega arith)))) in
-    let place : begin + (index - begin) ≡ index = omega arith in
+    let position : begin + (index - begin) ≡ index = omega arith in
     let next : ends_from ids begin ≡ index ∷ ends_from ids index =
-    ends_next ids begin (index - begin) before.chunk run ∙ ap (λ n. n ∷ ends_from ids n) place in
+    ends_next ids begin (index - begin) before.chunk run ∙ ap (λ n. n ∷ ends_from ids n) position in
     record {
       begin = index;
       before = omega arith;
       within = omega arith;
-      chunk = subst (λ (l : List ℕ). IsChunk l) (drop-drop (index - begin) begin ids ∙ ap (λ n. drop n ids) place) (chunk_rest (index - begin) (drop begin ids) before.chunk);
+      chunk = subst (λ (l : List ℕ). IsChunk l) (drop-drop (index - begin) begin ids ∙ ap (λ n. drop n ids) position) (chunk_rest (index - begin) (drop begin ids) before.chunk);
       shared = λ k low high. let e : k ≡ index = omega arith in ap (λ n. get_or ids n 0 / 256) e;
       filled = fill_one ends slot index (ends_from ids index) (slice_ends ids) (subst (λ (l : List ℕ). IsFilled ends slot l (slice_ends ids)) next before.filled);
     }
@@ -154,10 +154,10 @@ ends_done ids ends index slot before done =
     let some = before.before in
     let within = before.within in
     let run = run_so_far ids ends index slot before (λ lt. absurd (omega arith)) in
-    let place : begin + (index - begin) ≡ length ids = omega arith in
+    let position : begin + (index - begin) ≡ length ids = omega arith in
     let size = length-drop (length ids) ids in
     let next : ends_from ids begin ≡ length ids ∷ [] =
-    ends_next ids begin (index - begin) before.chunk run ∙ ap (λ n. n ∷ ends_from ids n) place
+    ends_next ids begin (index - begin) before.chunk run ∙ ap (λ n. n ∷ ends_from ids n) position
     ∙ ap (λ (l : List ℕ). length ids ∷ l) (no_ends ids (length ids) (omega arith)) in
     fill_done (set ends slot (length ids)) (slot + 1) (slice_ends ids)
     (fill_one ends slot (length ids) [] (slice_ends ids) (subst (λ (l : List ℕ). IsFilled ends slot l (slice_ends ids)) next before.filled))

@@ -6,7 +6,7 @@ use Rattle.std.proofs.lemmas.List.{get_or-map, length-map, take_all}
 use Rattle.std.proofs.lemmas.Nat.Bits.{bit_at_above}
 use Rattle.std.proofs.lemmas.Simd.{get_or-replicate, get_or-sel_l, get_or-zip2, length-replicate, length-sel_l, length-zip2}
 use Rattle.bitpack_sets.proofs.LoadLaws.{eqb_turned}
-use Rattle.bitpack_sets.proofs.MarkLaws.{four_set, mark_told, marks_of}
+use Rattle.bitpack_sets.proofs.MatchLaws.{four_set, match_known, matches_of}
 use Rattle.bitpack_sets.proofs.ReadLaws.{has_append}
 use Rattle.bitpack_sets.specs.Reads.{has}
 
@@ -164,16 +164,16 @@ module _ (bytes : List ℕ) (size : length bytes ≡ 32) where
       ∙ ap (λ (b : Bool). cond b (get_or (replicate 32 255) i 0) (get_or (replicate 32 0) i 0)) t
       ∙ ap (λ (n : ℕ). cond p n (get_or (replicate 32 0) i 0)) (get_or-replicate 32 i 255 0 lt) ∙ ap (λ (n : ℕ). cond p 255 n) (get_or-replicate 32 i 0 0 lt)
 
--- ---- a mark for each byte of all bits
+-- ---- a bit for each byte of all bits
 
 all_bits : (p : Bool) → eqb (cond p 255 0) 255 ≡ p
 all_bits true = refl
 all_bits false = refl
 
-pub full_mark : (bytes : List ℕ) (m i : ℕ) (p : Bool) → length bytes ≡ 32 → m ≡ marks_of 255 bytes → i < 32 → get_or bytes i 0 ≡ cond p 255 0 → eqb (bit_at m i) 1 ≡ p
-full_mark bytes m i p size e lt is = mark_told bytes 255 m i size e lt ∙ ap (λ (n : ℕ). eqb n 255) is ∙ all_bits p
+pub full_match : (bytes : List ℕ) (m i : ℕ) (p : Bool) → length bytes ≡ 32 → m ≡ matches_of 255 bytes → i < 32 → get_or bytes i 0 ≡ cond p 255 0 → eqb (bit_at m i) 1 ≡ p
+full_match bytes m i p size e lt is = match_known bytes 255 m i size e lt ∙ ap (λ (n : ℕ). eqb n 255) is ∙ all_bits p
 
--- no byte is marked among none
-pub none_marked : (x count i : ℕ) (others : List ℕ) → length others ≡ 0 → eqb (bit_at 0 i) 1 ≡ (ltb i count && has x others)
-none_marked x count i [] none = ap (λ (n : ℕ). eqb n 1) (bit_at_above 0 0 i (omega arith) (omega arith)) ∙ no_and (ltb i count)
-none_marked x count i (y ∷ others) none = absurd (omega arith)
+-- no byte is matched among none
+pub none_matched : (x count i : ℕ) (others : List ℕ) → length others ≡ 0 → eqb (bit_at 0 i) 1 ≡ (ltb i count && has x others)
+none_matched x count i [] none = ap (λ (n : ℕ). eqb n 1) (bit_at_above 0 0 i (omega arith) (omega arith)) ∙ no_and (ltb i count)
+none_matched x count i (y ∷ others) none = absurd (omega arith)

@@ -15,35 +15,35 @@ two_more xs i some lt =
     let e : i - 1 + 1 ≡ i = omega arith in
     drop_more xs (i - 1) 0 (omega arith) ∙ ap (λ (n : ℕ). get_or xs (i - 1) 0 ∷ drop n xs) e ∙ ap (λ (l : List ℕ). get_or xs (i - 1) 0 ∷ l) (drop_more xs i 0 lt)
 
-pub fall_here : (place i : ℕ) (xs : List ℕ) → 1 ≤ i → i < length xs → get_or xs i 0 ≤ get_or xs (i - 1) 0
-    → first_fall place xs ≡ first_fall (place + (i - 1)) (drop (i - 1) xs) → first_fall place xs ≡ Some (place + i)
+pub fall_here : (position i : ℕ) (xs : List ℕ) → 1 ≤ i → i < length xs → get_or xs i 0 ≤ get_or xs (i - 1) 0
+    → first_fall position xs ≡ first_fall (position + (i - 1)) (drop (i - 1) xs) → first_fall position xs ≡ Some (position + i)
 unfolding first_fall
-fall_here place i xs some lt falls so_far =
-    let e : place + (i - 1) + 1 ≡ place + i = omega arith in
-    so_far ∙ ap (first_fall (place + (i - 1))) (two_more xs i some lt)
-    ∙ ap (λ (b : Bool). cond b (Some (place + (i - 1) + 1)) (first_fall (place + (i - 1) + 1) (get_or xs i 0 ∷ drop (i + 1) xs))) (le-leb (get_or xs i 0) (get_or xs (i - 1) 0) falls) ∙ ap Some e
+fall_here position i xs some lt falls so_far =
+    let e : position + (i - 1) + 1 ≡ position + i = omega arith in
+    so_far ∙ ap (first_fall (position + (i - 1))) (two_more xs i some lt)
+    ∙ ap (λ (b : Bool). cond b (Some (position + (i - 1) + 1)) (first_fall (position + (i - 1) + 1) (get_or xs i 0 ∷ drop (i + 1) xs))) (le-leb (get_or xs i 0) (get_or xs (i - 1) 0) falls) ∙ ap Some e
 
-pub fall_later : (place i : ℕ) (xs : List ℕ) → 1 ≤ i → i < length xs → get_or xs (i - 1) 0 < get_or xs i 0
-    → first_fall place xs ≡ first_fall (place + (i - 1)) (drop (i - 1) xs) → first_fall place xs ≡ first_fall (place + (i + 1 - 1)) (drop (i + 1 - 1) xs)
+pub fall_later : (position i : ℕ) (xs : List ℕ) → 1 ≤ i → i < length xs → get_or xs (i - 1) 0 < get_or xs i 0
+    → first_fall position xs ≡ first_fall (position + (i - 1)) (drop (i - 1) xs) → first_fall position xs ≡ first_fall (position + (i + 1 - 1)) (drop (i + 1 - 1) xs)
 unfolding first_fall
-fall_later place i xs some lt rises so_far =
-    let e : place + (i - 1) + 1 ≡ place + (i + 1 - 1) = omega arith in
+fall_later position i xs some lt rises so_far =
+    let e : position + (i - 1) + 1 ≡ position + (i + 1 - 1) = omega arith in
     let f : i + 1 - 1 ≡ i = omega arith in
-    so_far ∙ ap (first_fall (place + (i - 1))) (two_more xs i some lt)
-    ∙ ap (λ (b : Bool). cond b (Some (place + (i - 1) + 1)) (first_fall (place + (i - 1) + 1) (get_or xs i 0 ∷ drop (i + 1) xs))) (lt-leb (get_or xs i 0) (get_or xs (i - 1) 0) rises)
-    ∙ ap (λ (n : ℕ). first_fall n (get_or xs i 0 ∷ drop (i + 1) xs)) e ∙ ap (first_fall (place + (i + 1 - 1))) (sym (drop_more xs i 0 lt) ∙ ap (λ (n : ℕ). drop n xs) (sym f))
+    so_far ∙ ap (first_fall (position + (i - 1))) (two_more xs i some lt)
+    ∙ ap (λ (b : Bool). cond b (Some (position + (i - 1) + 1)) (first_fall (position + (i - 1) + 1) (get_or xs i 0 ∷ drop (i + 1) xs))) (lt-leb (get_or xs i 0) (get_or xs (i - 1) 0) rises)
+    ∙ ap (λ (n : ℕ). first_fall n (get_or xs i 0 ∷ drop (i + 1) xs)) e ∙ ap (first_fall (position + (i + 1 - 1))) (sym (drop_more xs i 0 lt) ∙ ap (λ (n : ℕ). drop n xs) (sym f))
 
-pub fall_start : (place : ℕ) (xs : List ℕ) → first_fall place xs ≡ first_fall (place + (1 - 1)) (drop (1 - 1) xs)
-fall_start place xs = let e : place ≡ place + (1 - 1) = omega arith in ap (λ (n : ℕ). first_fall n xs) e
+pub fall_start : (position : ℕ) (xs : List ℕ) → first_fall position xs ≡ first_fall (position + (1 - 1)) (drop (1 - 1) xs)
+fall_start position xs = let e : position ≡ position + (1 - 1) = omega arith in ap (λ (n : ℕ). first_fall n xs) e
 
-short_none : (place : ℕ) (xs : List ℕ) → length xs ≤ 1 → first_fall place xs ≡ None
+short_none : (position : ℕ) (xs : List ℕ) → length xs ≤ 1 → first_fall position xs ≡ None
 unfolding first_fall
-short_none place [] h = refl
-short_none place (x ∷ []) h = refl
-short_none place (x ∷ y ∷ ys) h = absurd (omega arith)
+short_none position [] h = refl
+short_none position (x ∷ []) h = refl
+short_none position (x ∷ y ∷ ys) h = absurd (omega arith)
 
-pub fall_none : (place i : ℕ) (xs : List ℕ) → length xs ≤ i → first_fall place xs ≡ first_fall (place + (i - 1)) (drop (i - 1) xs) → first_fall place xs ≡ None
-fall_none place i xs done so_far = so_far ∙ short_none (place + (i - 1)) (drop (i - 1) xs) (omega (arith, length-drop (i - 1) xs))
+pub fall_none : (position i : ℕ) (xs : List ℕ) → length xs ≤ i → first_fall position xs ≡ first_fall (position + (i - 1)) (drop (i - 1) xs) → first_fall position xs ≡ None
+fall_none position i xs done so_far = so_far ∙ short_none (position + (i - 1)) (drop (i - 1) xs) (omega (arith, length-drop (i - 1) xs))
 
 -- ---- parts
 

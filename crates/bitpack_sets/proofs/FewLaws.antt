@@ -10,34 +10,34 @@ use Rattle.bitpack_sets.specs.Varints.{AreGroups, groups_of, number}
 abbrev pub codes_of : List ℕ → List ℕ
 codes_of ids = gaps (get_or ids 0 0) (drop 1 ids)
 
-abbrev pub groups_text : List ℕ → List ℕ
-groups_text ids = groups (groups_of (length (codes_of ids))) (codes_of ids)
+abbrev pub groups_encoding : List ℕ → List ℕ
+groups_encoding ids = groups (groups_of (length (codes_of ids))) (codes_of ids)
 
 pub no_ids : (ids : List ℕ) → length ids ≡ 0 → short ids ≡ 128 ∷ []
 unfolding short
 no_ids [] h = refl
 no_ids (x ∷ ids) h = absurd (omega arith)
 
-pub few_text : (ids : List ℕ) → 0 < length ids → short ids ≡ (128 + length ids) ∷ (number (get_or ids 0 0) ++ groups_text ids)
-few_text [] h = absurd (omega arith)
-few_text (x ∷ xs) h =
+pub few_encoding : (ids : List ℕ) → 0 < length ids → short ids ≡ (128 + length ids) ∷ (number (get_or ids 0 0) ++ groups_encoding ids)
+few_encoding [] h = absurd (omega arith)
+few_encoding (x ∷ xs) h =
     let e : 129 + length xs ≡ 128 + length (x ∷ xs) = omega arith in
     short_is x xs ∙ ap (λ n. n ∷ (number x ++ groups (groups_of (length xs)) (gaps x xs))) e
     ∙ ap (λ n. (128 + length (x ∷ xs)) ∷ (number x ++ groups (groups_of n) (gaps x xs))) (sym (gaps_len x xs))
 
-pub few_size : (ids : List ℕ) → 0 < length ids → length (short ids) ≡ 1 + length (number (get_or ids 0 0)) + length (groups_text ids)
-few_size ids some = let a = ap length (few_text ids some) in let b = length-append (number (get_or ids 0 0)) (groups_text ids) in omega arith
+pub few_size : (ids : List ℕ) → 0 < length ids → length (short ids) ≡ 1 + length (number (get_or ids 0 0)) + length (groups_encoding ids)
+few_size ids some = let a = ap length (few_encoding ids some) in let b = length-append (number (get_or ids 0 0)) (groups_encoding ids) in omega arith
 
 pub codes_len : (ids : List ℕ) → 0 < length ids → length (codes_of ids) + 1 ≡ length ids
 codes_len [] h = absurd (omega arith)
 codes_len (x ∷ xs) h = let e = gaps_len x xs in omega arith
 
 -- the codes have these groups, and no others
-pub codes_run : (ids : List ℕ) → IsSet ids → 0 < length ids → AreGroups (groups_of (length (codes_of ids))) (codes_of ids) (groups_text ids)
+pub codes_run : (ids : List ℕ) → IsSet ids → 0 < length ids → AreGroups (groups_of (length (codes_of ids))) (codes_of ids) (groups_encoding ids)
 codes_run [] set some = absurd (omega arith)
 codes_run (x ∷ xs) set some = let (zero', r) = set.rising in (groups_run (gaps x xs) (below_words (gaps x xs) (gaps_below x xs r))).1
 
-pub codes_one : (ids bytes : List ℕ) → IsSet ids → 0 < length ids → AreGroups (groups_of (length (codes_of ids))) (codes_of ids) bytes → bytes ≡ groups_text ids
+pub codes_one : (ids bytes : List ℕ) → IsSet ids → 0 < length ids → AreGroups (groups_of (length (codes_of ids))) (codes_of ids) bytes → bytes ≡ groups_encoding ids
 codes_one [] bytes set some are = absurd (omega arith)
 codes_one (x ∷ xs) bytes set some are = let (zero', r) = set.rising in groups_are (groups_of (length (gaps x xs))) (gaps x xs) bytes (below_words (gaps x xs) (gaps_below x xs r)) are
 

@@ -7,22 +7,22 @@ use Rattle.std.proofs.lemmas.Bool.Decides.{nat_tests}
 use Rattle.std.proofs.lemmas.List.{get_or-map, get_or-set_other, get_or-set_same, length-map, length-set, set-get_or, take_all}
 use Rattle.std.proofs.lemmas.List.Sums.{fold_more}
 use Rattle.bitpack_sets.proofs.AnswerLaws.{listed_has}
-use Rattle.bitpack_sets.proofs.SelectionLaws.{kept, map_zero}
+use Rattle.bitpack_sets.proofs.SelectionLaws.{map_zero, retained}
 use Rattle.bitpack_sets.specs.Bitmaps.{has_high}
 use Rattle.bitpack_sets.specs.Folds.{high_of, swapped}
-use Rattle.bitpack_sets.specs.Operations.{folded, holds, those}
+use Rattle.bitpack_sets.specs.Operations.{apply, folded, those}
 use Rattle.bitpack_sets.specs.Reads.{has}
 use Rattle.bitpack_sets.specs.declared.operation.Operation.{Operation}
 use Rattle.bitpack_sets.specs.declared.operation.Operation.TheVariants.{And, Or, AndNot, Xor}
 
 -- ---- the answer set by set
 
-pub combined_more : (operation : Operation) (bs : List Bool) (i : ℕ) (z : Bool) → 0 < i → i < length bs → folded operation (take (i + 1) bs) ≡ holds operation (folded operation (take i bs)) (get_or bs i z)
+pub combined_more : (operation : Operation) (bs : List Bool) (i : ℕ) (z : Bool) → 0 < i → i < length bs → folded operation (take (i + 1) bs) ≡ apply operation (folded operation (take i bs)) (get_or bs i z)
 combined_more operation [] i z p l = absurd (omega arith)
 combined_more operation (b ∷ bs) zero z p l = absurd (omega arith)
 combined_more operation (b ∷ bs) (suc i) z p l =
     let e : suc i + 1 ≡ suc (i + 1) = omega arith in
-    ap (λ n. folded operation (take n (b ∷ bs))) e ∙ fold_more (holds operation) b bs i z (omega arith)
+    ap (λ n. folded operation (take n (b ∷ bs))) e ∙ fold_more (apply operation) b bs i z (omega arith)
 
 pub combined_first : (operation : Operation) (bs : List Bool) (z : Bool) → 0 < length bs → folded operation (take 1 bs) ≡ get_or bs 0 z
 combined_first operation [] z l = absurd (omega arith)
@@ -30,7 +30,7 @@ combined_first operation (b ∷ bs) z l = refl
 
 -- ---- an operation on what is false
 
-pub neither : (operation : Operation) → holds operation false false ≡ false
+pub neither : (operation : Operation) → apply operation false false ≡ false
 neither And = refl
 neither Or = refl
 neither AndNot = refl
@@ -46,7 +46,7 @@ no_high x [] h = refl
 no_high x (y ∷ ys) h = no_high_step x y (has_high (x / 256) ys) (has x ys) h (no_high x ys)
 
 -- what high bytes rule out
-pub none_of_highs : (operation : Operation) (p q a b : Bool) → (p ≡ false → a ≡ false) → (q ≡ false → b ≡ false) → holds operation p q ≡ false → holds operation p false ≡ false → holds operation false q ≡ false → holds operation a b ≡ false
+pub none_of_highs : (operation : Operation) (p q a b : Bool) → (p ≡ false → a ≡ false) → (q ≡ false → b ≡ false) → apply operation p q ≡ false → apply operation p false ≡ false → apply operation false q ≡ false → apply operation a b ≡ false
 none_of_highs operation p q false false f g both left right = neither operation
 none_of_highs operation true true true true f g both left right = both
 none_of_highs operation true q true false f g both left right = left
@@ -66,7 +66,7 @@ none_listed out n h p e z small = sym (listed_has (take n out) p h e small) ∙ 
 
 -- ---- a chunk of the answer
 
-pub part_own : (before among bit : Bool) → (among ≡ false → before ≡ false) → (among ≡ true → bit ≡ before) → before ≡ (among && bit)
+pub part_own : (before member bit : Bool) → (member ≡ false → before ≡ false) → (member ≡ true → bit ≡ before) → before ≡ (member && bit)
 part_own before true bit none own = sym (own refl)
 part_own before false bit none own = none refl
 
@@ -76,31 +76,31 @@ pub and_cleared : (a b c : Bool) → a ≡ (b && c) → c ≡ false → a ≡ fa
 and_cleared a b c e f = e ∙ ap (λ (d : Bool). b && d) f ∙ and-false b
 
 -- a number is combined, if the answer has none of the second set alone
-pub cut_marked : (operation : Operation) (h o w w' b n : Bool) → holds operation false true ≡ false → n ≡ high_of operation h o → (o ≡ false → b ≡ false)
-    → ((h && o) ≡ true → w' ≡ holds operation w b) → ((h && o) ≡ false → w' ≡ w) → (n && w') ≡ holds operation (h && w) b
-cut_marked And true true w w' b n k e f g r = ap (λ (m : Bool). m && w') e ∙ g refl
-cut_marked And true false w w' b n k e f g r = ap (λ (m : Bool). m && w') e ∙ sym (ap (λ (c : Bool). w && c) (f refl) ∙ and-false w)
-cut_marked And false o w w' b n k e f g r = ap (λ (m : Bool). m && w') e
-cut_marked AndNot true true w w' b n k e f g r = ap (λ (m : Bool). m && w') e ∙ g refl
-cut_marked AndNot true false w w' b n k e f g r = ap (λ (m : Bool). m && w') e ∙ r refl ∙ sym (ap (λ (c : Bool). w && not c) (f refl) ∙ and-true w)
-cut_marked AndNot false o w w' b n k e f g r = ap (λ (m : Bool). m && w') e
-cut_marked Or h o w w' b n k e f g r = absurd (true≢false k)
-cut_marked Xor h o w w' b n k e f g r = absurd (true≢false k)
+pub cut_has : (operation : Operation) (h o w w' b n : Bool) → apply operation false true ≡ false → n ≡ high_of operation h o → (o ≡ false → b ≡ false)
+    → ((h && o) ≡ true → w' ≡ apply operation w b) → ((h && o) ≡ false → w' ≡ w) → (n && w') ≡ apply operation (h && w) b
+cut_has And true true w w' b n k e f g r = ap (λ (m : Bool). m && w') e ∙ g refl
+cut_has And true false w w' b n k e f g r = ap (λ (m : Bool). m && w') e ∙ sym (ap (λ (c : Bool). w && c) (f refl) ∙ and-false w)
+cut_has And false o w w' b n k e f g r = ap (λ (m : Bool). m && w') e
+cut_has AndNot true true w w' b n k e f g r = ap (λ (m : Bool). m && w') e ∙ g refl
+cut_has AndNot true false w w' b n k e f g r = ap (λ (m : Bool). m && w') e ∙ r refl ∙ sym (ap (λ (c : Bool). w && not c) (f refl) ∙ and-true w)
+cut_has AndNot false o w w' b n k e f g r = ap (λ (m : Bool). m && w') e
+cut_has Or h o w w' b n k e f g r = absurd (true≢false k)
+cut_has Xor h o w w' b n k e f g r = absurd (true≢false k)
 
 -- a number is combined, if the answer has those of the second set alone: bits of high bytes that are new are cleared before
-pub joined_marked : (operation : Operation) (h o w w' w'' b n : Bool) → holds operation false true ≡ true → n ≡ high_of operation h o → (o ≡ false → b ≡ false)
-    → ((o && not h) ≡ true → w' ≡ false) → ((o && not h) ≡ false → w' ≡ w) → (o ≡ true → w'' ≡ holds operation w' b) → (o ≡ false → w'' ≡ w')
-    → (n && w'') ≡ holds operation (h && w) b
-joined_marked Or true true w w' w'' b n k e f q r s t = ap (λ (m : Bool). m && w'') e ∙ s refl ∙ ap (λ (c : Bool). c || b) (r refl)
-joined_marked Or true false w w' w'' b n k e f q r s t = ap (λ (m : Bool). m && w'') e ∙ t refl ∙ r refl ∙ sym (ap (λ (c : Bool). w || c) (f refl) ∙ or-false w)
-joined_marked Or false true w w' w'' b n k e f q r s t = ap (λ (m : Bool). m && w'') e ∙ s refl ∙ ap (λ (c : Bool). c || b) (q refl)
-joined_marked Or false false w w' w'' b n k e f q r s t = ap (λ (m : Bool). m && w'') e ∙ sym (f refl)
-joined_marked Xor true true w w' w'' b n k e f q r s t = ap (λ (m : Bool). m && w'') e ∙ s refl ∙ ap (λ (c : Bool). holds Xor c b) (r refl)
-joined_marked Xor true false w w' w'' b n k e f q r s t = ap (λ (m : Bool). m && w'') e ∙ t refl ∙ r refl ∙ sym (ap (holds Xor w) (f refl) ∙ kept Xor w refl)
-joined_marked Xor false true w w' w'' b n k e f q r s t = ap (λ (m : Bool). m && w'') e ∙ s refl ∙ ap (λ (c : Bool). holds Xor c b) (q refl)
-joined_marked Xor false false w w' w'' b n k e f q r s t = ap (λ (m : Bool). m && w'') e ∙ sym (f refl)
-joined_marked And h o w w' w'' b n k e f q r s t = absurd (false≢true k)
-joined_marked AndNot h o w w' w'' b n k e f q r s t = absurd (false≢true k)
+pub joined_has : (operation : Operation) (h o w w' w'' b n : Bool) → apply operation false true ≡ true → n ≡ high_of operation h o → (o ≡ false → b ≡ false)
+    → ((o && not h) ≡ true → w' ≡ false) → ((o && not h) ≡ false → w' ≡ w) → (o ≡ true → w'' ≡ apply operation w' b) → (o ≡ false → w'' ≡ w')
+    → (n && w'') ≡ apply operation (h && w) b
+joined_has Or true true w w' w'' b n k e f q r s t = ap (λ (m : Bool). m && w'') e ∙ s refl ∙ ap (λ (c : Bool). c || b) (r refl)
+joined_has Or true false w w' w'' b n k e f q r s t = ap (λ (m : Bool). m && w'') e ∙ t refl ∙ r refl ∙ sym (ap (λ (c : Bool). w || c) (f refl) ∙ or-false w)
+joined_has Or false true w w' w'' b n k e f q r s t = ap (λ (m : Bool). m && w'') e ∙ s refl ∙ ap (λ (c : Bool). c || b) (q refl)
+joined_has Or false false w w' w'' b n k e f q r s t = ap (λ (m : Bool). m && w'') e ∙ sym (f refl)
+joined_has Xor true true w w' w'' b n k e f q r s t = ap (λ (m : Bool). m && w'') e ∙ s refl ∙ ap (λ (c : Bool). apply Xor c b) (r refl)
+joined_has Xor true false w w' w'' b n k e f q r s t = ap (λ (m : Bool). m && w'') e ∙ t refl ∙ r refl ∙ sym (ap (apply Xor w) (f refl) ∙ retained Xor w refl)
+joined_has Xor false true w w' w'' b n k e f q r s t = ap (λ (m : Bool). m && w'') e ∙ s refl ∙ ap (λ (c : Bool). apply Xor c b) (q refl)
+joined_has Xor false false w w' w'' b n k e f q r s t = ap (λ (m : Bool). m && w'') e ∙ sym (f refl)
+joined_has And h o w w' w'' b n k e f q r s t = absurd (false≢true k)
+joined_has AndNot h o w w' w'' b n k e f q r s t = absurd (false≢true k)
 
 -- ---- the first of several sets and another are exchanged
 
@@ -128,7 +128,7 @@ swapped_other first i sets some other =
     ∙ get_or-set_other sets 0 i (get_or sets first []) [] (λ e. omega arith)
 
 -- all have an id exactly if each has it
-all_after : (b : Bool) (bs : List Bool) → b ≡ true → ((i : ℕ) → i < length bs → get_or bs i false ≡ true) → fold (holds And) b bs ≡ true
+all_after : (b : Bool) (bs : List Bool) → b ≡ true → ((i : ℕ) → i < length bs → get_or bs i false ≡ true) → fold (apply And) b bs ≡ true
 all_after b [] e each = e
 all_after b (d ∷ bs) e each = all_after (b && d) bs (ap (λ (c : Bool). c && d) e ∙ each 0 (omega arith)) (λ i h. each (suc i) (omega arith))
 
@@ -144,11 +144,11 @@ pub and_second : (a b : Bool) → (a && b) ≡ true → b ≡ true
 and_second true b h = h
 and_second false b h = absurd (false≢true h)
 
-pub first_has : (b : Bool) (bs : List Bool) → fold (holds And) b bs ≡ true → b ≡ true
+pub first_has : (b : Bool) (bs : List Bool) → fold (apply And) b bs ≡ true → b ≡ true
 first_has b [] h = h
 first_has b (d ∷ bs) h = and_first b d (first_has (b && d) bs h)
 
-later_has : (b : Bool) (bs : List Bool) (i : ℕ) → fold (holds And) b bs ≡ true → i < length bs → get_or bs i false ≡ true
+later_has : (b : Bool) (bs : List Bool) (i : ℕ) → fold (apply And) b bs ≡ true → i < length bs → get_or bs i false ≡ true
 later_has b [] i h l = absurd (omega arith)
 later_has b (d ∷ bs) zero h l = and_second b d (first_has (b && d) bs h)
 later_has b (d ∷ bs) (suc i) h l = later_has (b && d) bs i h (omega arith)
@@ -215,11 +215,11 @@ first_taken operation x first sets h =
     ∙ get_or-map (has x) (swapped first sets) 0 [] false (omega arith) ∙ ap (has x) (swapped_first first sets h)
 
 pub next_taken : (operation : Operation) (x first i : ℕ) (sets : List (List ℕ)) (own : List ℕ) → 0 < i → i < length sets → get_or (swapped first sets) i [] ≡ own
-    → folded operation (take (i + 1) (map (has x) (swapped first sets))) ≡ holds operation (folded operation (take i (map (has x) (swapped first sets)))) (has x own)
+    → folded operation (take (i + 1) (map (has x) (swapped first sets))) ≡ apply operation (folded operation (take i (map (has x) (swapped first sets)))) (has x own)
 next_taken operation x first i sets own some h e =
     let long = swapped_len first sets in
     combined_more operation (map (has x) (swapped first sets)) i false some (omega (arith, length-map (swapped first sets) (has x)))
-    ∙ ap (holds operation (folded operation (take i (map (has x) (swapped first sets))))) (get_or-map (has x) (swapped first sets) i [] false (omega arith) ∙ ap (has x) e)
+    ∙ ap (apply operation (folded operation (take i (map (has x) (swapped first sets))))) (get_or-map (has x) (swapped first sets) i [] false (omega arith) ∙ ap (has x) e)
 
 pub all_taken : (operation : Operation) (x first i : ℕ) (sets : List (List ℕ)) → length sets ≤ i
     → folded operation (take i (map (has x) (swapped first sets))) ≡ folded operation (map (has x) (swapped first sets))

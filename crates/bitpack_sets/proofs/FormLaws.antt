@@ -8,7 +8,7 @@ use Rattle.bitpack_sets.proofs.CountLaws.{bytes_are}
 use Rattle.bitpack_sets.proofs.DecodeLaws.{bytes_dropped}
 use Rattle.bitpack_sets.proofs.EntryLaws.{rest_none}
 use Rattle.bitpack_sets.proofs.FaultLaws.{map_none, not_below, or_none}
-use Rattle.bitpack_sets.proofs.TextLaws.{chunks_none, some_not_none}
+use Rattle.bitpack_sets.proofs.EncodingLaws.{chunks_none, some_not_none}
 use Rattle.bitpack_sets.proofs.Words.{EachByte}
 use Rattle.bitpack_sets.specs.Directory.{chunk_ids}
 use Rattle.bitpack_sets.specs.Faults.{array_fault, count_fault, fault, ids_fault, in_chunks_fault, short_fault}

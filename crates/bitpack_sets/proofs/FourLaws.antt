@@ -175,7 +175,7 @@ fewer_left base left left' four pos small w =
 
 pub four_more : (base at n next k left left' : ℕ) (old out four xs : List ℕ) → 0 < left → left < 2 ^ 64 → next ≡ at + n → next + 4 ≤ length out → length four ≡ 4
     → AreOut base at n left old out xs → AreWritten base 4 left' four (ones_from left 0 64) → AreOut base at (n + 4) left' old (put_mid next k out four) xs
-four_more base at n next k left left' old out four xs pos small place room size o w =
+four_more base at n next k left left' old out four xs pos small position room size o w =
     let f : List ℕ → List ℕ = map (λ i. base + i) in
     let ys = drop n xs in
     let more = more_left n left xs pos small o.rest in

@@ -12,16 +12,16 @@ use Rattle.bitpack_sets.proofs.EncodeLaws.{few_is}
 use Rattle.bitpack_sets.proofs.EntryLaws.{body_len, ends_grow, grown_to, sums_grow}
 use Rattle.bitpack_sets.proofs.JoinLaws.{join_rises, parts_join}
 use Rattle.bitpack_sets.proofs.LongLaws.{counts, join_len, keys, total}
-use Rattle.bitpack_sets.proofs.LongLaws as texts
+use Rattle.bitpack_sets.proofs.LongLaws as encodings
 use Rattle.bitpack_sets.proofs.PartLaws.{AreParts, join, join_parts, parts_are}
 use Rattle.bitpack_sets.proofs.ShortLaws.{Grows, map_map, map_same, before_next, step_of, steps_summed, steps_taken, steps_total}
 use Rattle.bitpack_sets.proofs.WalkLaws.{rising_from}
 use Rattle.bitpack_sets.proofs.Words.{EachByte}
 use Rattle.bitpack_sets.specs.Directory.{before, bodies_end, bodies_start, body_at, body_numbers_of, chunk_at, chunk_ids, count_at, end_at, ids_of_chunks, key_at, sum_at}
 use Rattle.bitpack_sets.specs.Fronts.{IsFront, IsNext}
-use Rattle.bitpack_sets.specs.Sets.{IsRising, IsSet, body, le_bytes, parts, short, sums, text}
+use Rattle.bitpack_sets.specs.Sets.{IsRising, IsSet, body, encoding, le_bytes, parts, short, sums}
 use Rattle.bitpack_sets.specs.Sound.{IsRest}
-use Rattle.bitpack_sets.specs.Written.{bodies, keys_text}
+use Rattle.bitpack_sets.specs.Written.{bodies, keys_encoding}
 
 -- ---- parts of lists that follow each other
 
@@ -89,7 +89,7 @@ module _ (ids chunks : ℕ) (rest : List ℕ) (are : EachByte rest) (is : IsRest
   sums_up : Grows (sum_at chunks rest) 0 k
   sums_up i low high = sums_grow ids chunks rest is.entries i low (omega arith)
 
-  pub front_keys : keys_text first ≡ take (2 * k) (drop 1 rest)
+  pub front_keys : keys_encoding first ≡ take (2 * k) (drop 1 rest)
   front_keys =
       let room = is.directory.room in
       ap (λ (ps : List (ℕ × List ℕ)). flat_map (le_bytes 2) (keys ps)) front_parts
@@ -98,8 +98,8 @@ module _ (ids chunks : ℕ) (rest : List ℕ) (are : EachByte rest) (is : IsRest
 
   front_bodies_in : bodies first ≡ map (body_at chunks rest) (range_with_len 0 k)
   front_bodies_in =
-      ap texts.bodies front_parts ∙ map_map (λ (part : ℕ × List ℕ). body part.1) (chunk_at chunks rest) 0 k
-      ∙ map_same (λ m. body (body_numbers_of (count_at chunks rest m) (body_at chunks rest m))) (body_at chunks rest) 0 k (λ i low high. (is.bodies i (omega arith)).text)
+      ap encodings.bodies front_parts ∙ map_map (λ (part : ℕ × List ℕ). body part.1) (chunk_at chunks rest) 0 k
+      ∙ map_same (λ m. body (body_numbers_of (count_at chunks rest m) (body_at chunks rest m))) (body_at chunks rest) 0 k (λ i low high. (is.bodies i (omega arith)).encoding)
 
   front_sizes : map length (bodies first) ≡ map (step_of (end_at chunks rest)) (range_with_len 0 k)
   front_sizes =
@@ -233,7 +233,7 @@ unfolding short
 short_first [] = omega arith
 short_first (x ∷ ids) = omega arith
 
-pub many_ids : (ids : List ℕ) → get_or (text ids) 0 0 ≡ 5 → 128 ≤ length ids
+pub many_ids : (ids : List ℕ) → get_or (encoding ids) 0 0 ≡ 5 → 128 ≤ length ids
 many_ids ids five = elim (cases_lt (length ids) 128) [
   | inl few ↦ (let e = ap (λ (l : List ℕ). get_or l 0 0) (few_is ids (omega arith)) in let high = short_first ids in absurd (omega arith))
   | inr many ↦ many

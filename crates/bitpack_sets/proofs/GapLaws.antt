@@ -70,18 +70,18 @@ gaps_below x (y ∷ ys) (a, r) = let room = rising_room (y + 1) (2 ^ 32) ys r in
 
 -- ---- none is too large
 
-over_none : (place : ℕ) (xs : List ℕ) → first_over place xs ≡ None → Below (2 ^ 32) xs
+over_none : (position : ℕ) (xs : List ℕ) → first_over position xs ≡ None → Below (2 ^ 32) xs
 unfolding first_over
-over_none place [] e = tt
-over_none place (x ∷ xs) e =
-    let (low, later) = passed (leb (2 ^ 32) x) place (first_over (place + 1) xs) e in
+over_none position [] e = tt
+over_none position (x ∷ xs) e =
+    let (low, later) = passed (leb (2 ^ 32) x) position (first_over (position + 1) xs) e in
     let small : x < 2 ^ 32 = elim (cases_lt x (2 ^ 32)) [ inl less ↦ less | inr more ↦ absurd (true≢false (sym (le-leb (2 ^ 32) x more) ∙ low)) ] in
-    (small, over_none (place + 1) xs later)
+    (small, over_none (position + 1) xs later)
 
-none_over : (place : ℕ) (xs : List ℕ) → Below (2 ^ 32) xs → first_over place xs ≡ None
+none_over : (position : ℕ) (xs : List ℕ) → Below (2 ^ 32) xs → first_over position xs ≡ None
 unfolding first_over
-none_over place [] h = refl
-none_over place (x ∷ xs) (a, h) = some_not (leb (2 ^ 32) x) place (first_over (place + 1) xs) (lt-leb (2 ^ 32) x a) (none_over (place + 1) xs h)
+none_over position [] h = refl
+none_over position (x ∷ xs) (a, h) = some_not (leb (2 ^ 32) x) position (first_over (position + 1) xs) (lt-leb (2 ^ 32) x a) (none_over (position + 1) xs h)
 
 -- as a loop finds it
 pub over_next : (i id next : ℕ) (codes : List ℕ) → i < length codes → id < 2 ^ 32 → next ≡ id + (get_or codes i 0 + 1)
@@ -94,10 +94,10 @@ over_next i id next codes h small e =
     ∙ ap (λ (b : Bool). cond b (Some i) (first_over (i + 1) (ids_from (id + code + 1) (drop (i + 1) codes)))) (lt-leb (2 ^ 32) id small)
     ∙ ap (λ (n : ℕ). first_over (i + 1) (ids_from n (drop (i + 1) codes))) f
 
-pub over_found : (place id : ℕ) (codes : List ℕ) → 2 ^ 32 ≤ id → first_over place (ids_from id codes) ≡ Some place
+pub over_found : (position id : ℕ) (codes : List ℕ) → 2 ^ 32 ≤ id → first_over position (ids_from id codes) ≡ Some position
 unfolding first_over
-over_found place id codes h =
-    ap (first_over place) (begins id codes) ∙ ap (λ (b : Bool). cond b (Some place) (first_over (place + 1) (drop 1 (ids_from id codes)))) (le-leb (2 ^ 32) id h)
+over_found position id codes h =
+    ap (first_over position) (begins id codes) ∙ ap (λ (b : Bool). cond b (Some position) (first_over (position + 1) (drop 1 (ids_from id codes)))) (le-leb (2 ^ 32) id h)
 
 pub over_done : (i id : ℕ) (codes : List ℕ) → length codes ≤ i → id < 2 ^ 32 → first_over i (ids_from id (drop i codes)) ≡ None
 unfolding first_over ids_from
@@ -168,10 +168,10 @@ no_bytes [] h = refl
 no_bytes (byte ∷ bytes) h = absurd (omega arith)
 
 -- the encoding of an id and others, after byte 0
-abbrev pub later_text : ℕ → List ℕ → List ℕ
-later_text x xs = number x ++ groups (groups_of (length xs)) (gaps x xs)
+abbrev pub later_encoding : ℕ → List ℕ → List ℕ
+later_encoding x xs = number x ++ groups (groups_of (length xs)) (gaps x xs)
 
-pub short_is : (x : ℕ) (xs : List ℕ) → short (x ∷ xs) ≡ (129 + length xs) ∷ later_text x xs
+pub short_is : (x : ℕ) (xs : List ℕ) → short (x ∷ xs) ≡ (129 + length xs) ∷ later_encoding x xs
 unfolding short
 short_is x xs = refl
 
@@ -190,7 +190,7 @@ short_none more bytes are e =
     let below : Below (2 ^ 32) (ids_from value codes) = over_none 0 (ids_from value codes) (map_none NotSorted _ over) in
     let end : after_groups (groups_of more) more rest ≡ [] = no_bytes (after_groups (groups_of more) more rest) (not_below 0 (length (after_groups (groups_of more) more rest)) (passed _ _ _ after).0) in
     let whole : rest ≡ run = split ∙ ap (λ (l : List ℕ). run ++ l) end ∙ append-nil run in
-    let run_text : run ≡ groups (groups_of more) codes = groups_are (groups_of more) codes run words run_is in
+    let run_encoding : run ≡ groups (groups_of more) codes = groups_are (groups_of more) codes run words run_is in
     let later : List ℕ = drop 1 (ids_from value codes) in
     let begin : ids_from value codes ≡ value ∷ later = begins value codes in
     let long = from_len value codes in
@@ -200,7 +200,7 @@ short_none more bytes are e =
       ap short begin ∙ short_is value later
           ∙ ap (λ (n : ℕ). (129 + n) ∷ (number value ++ groups (groups_of n) (gaps value later))) size
           ∙ ap (λ (l : List ℕ). (129 + more) ∷ (number value ++ groups (groups_of more) l)) (gaps_back value codes)
-          ∙ ap (λ (l : List ℕ). (129 + more) ∷ (number value ++ l)) (sym run_text ∙ sym whole)
+          ∙ ap (λ (l : List ℕ). (129 + more) ∷ (number value ++ l)) (sym run_encoding ∙ sym whole)
           ∙ ap (λ (l : List ℕ). (129 + more) ∷ (l ++ rest)) (sym front)
           ∙ ap (λ (l : List ℕ). (129 + more) ∷ l) (take-append-drop (number_end bytes) bytes),
     )
@@ -209,7 +209,7 @@ short_none more bytes are e =
 pub later_bytes : (x : ℕ) (xs : List ℕ) → IsRising (x + 1) (2 ^ 32) xs → AreBytes (groups (groups_of (length xs)) (gaps x xs))
 later_bytes x xs r = subst (λ (n : ℕ). AreBytes (groups (groups_of n) (gaps x xs))) (gaps_len x xs) (groups_run (gaps x xs) (below_words (gaps x xs) (gaps_below x xs r))).0
 
-pub none_short : (x : ℕ) (xs : List ℕ) → IsRising 0 (2 ^ 32) (x ∷ xs) → short_fault (suc (length xs)) (later_text x xs) ≡ None
+pub none_short : (x : ℕ) (xs : List ℕ) → IsRising 0 (2 ^ 32) (x ∷ xs) → short_fault (suc (length xs)) (later_encoding x xs) ≡ None
 unfolding short_fault some_fault
 none_short x xs (zero', r) =
     let room = rising_room (x + 1) (2 ^ 32) xs r in

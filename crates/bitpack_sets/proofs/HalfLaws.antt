@@ -31,7 +31,7 @@ rising_at low high i [] r h = absurd (omega arith)
 rising_at low high zero (y ∷ ys) (a, r) h = a
 rising_at low high (suc i) (y ∷ ys) (a, r) h = let ih = rising_at (y + 1) high i ys r (omega arith) in omega arith
 
--- one below has a lower place
+-- one below has a lower position
 pub rank_above : (x low high i : ℕ) (xs : List ℕ) → IsRising low high xs → i < length xs → get_or xs i 0 < x → i + 1 ≤ rank x xs
 rank_above x low high i [] r h l = absurd (omega arith)
 rank_above x low high zero (y ∷ ys) (a, r) h l =
@@ -52,7 +52,7 @@ rank_under x low high (suc i) (y ∷ ys) (a, r) h l =
     let one = bit_le (ltb y x) in
     omega arith
 
--- what is at its place tells a number
+-- what is at its position tells a number
 pub has_at_rank : (x low high i : ℕ) (xs : List ℕ) → IsRising low high xs → i ≡ rank x xs → i < length xs → has x xs ≡ eqb (get_or xs i 0) x
 has_at_rank x low high i [] r e h = absurd (omega arith)
 has_at_rank x low high zero (y ∷ ys) (a, r) e h = elim (cases_lt y x) [

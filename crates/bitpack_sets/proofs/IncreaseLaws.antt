@@ -40,9 +40,9 @@ word_bits i bytes are =
 abbrev pub falls : ℕ → List ℕ → List Bool
 falls start xs = zip2 leb (chunk (start + 1) 32 xs) (chunk start 32 xs)
 
--- as the code marks them
-abbrev pub marked : ℕ → List ℕ → ℕ
-marked start xs = mask_l (map (top (hbits w8)) (zip2 (λ a b. cond (leb a b) (2 ^ bits w8 - 1) 0) (chunk (start + 1) 32 xs) (chunk start 32 xs))) % 2 ^ 64
+-- as the code matches them
+abbrev pub matched : ℕ → List ℕ → ℕ
+matched start xs = mask_l (map (top (hbits w8)) (zip2 (λ a b. cond (leb a b) (2 ^ bits w8 - 1) 0) (chunk (start + 1) 32 xs) (chunk start 32 xs))) % 2 ^ 64
 
 falls_long : (start : ℕ) (xs : List ℕ) → start + 33 ≤ length xs → length (falls start xs) ≡ 32
 falls_long start xs h =
@@ -50,8 +50,8 @@ falls_long start xs h =
     let next = length-chunk (start + 1) 32 xs (omega arith) in
     length-zip2 leb (chunk (start + 1) 32 xs) (chunk start 32 xs) (next ∙ sym these) ∙ next
 
-marked_is : (start : ℕ) (xs : List ℕ) → start + 33 ≤ length xs → marked start xs ≡ mask_l (falls start xs)
-marked_is start xs h =
+matched_is : (start : ℕ) (xs : List ℕ) → start + 33 ≤ length xs → matched start xs ≡ mask_l (falls start xs)
+matched_is start xs h =
     ap (λ (ms : List Bool). mask_l ms % 2 ^ 64) (tops_compared w8 leb (chunk (start + 1) 32 xs) (chunk start 32 xs))
     ∙ mask_l-mod (falls start xs) 64 (let size = falls_long start xs h in omega arith)
 
@@ -112,7 +112,7 @@ mask_drop (suc n) (b ∷ bs) =
 -- ---- the test of up to 31 bytes
 
 pub rises_tested : (from start count : ℕ) (xs : List ℕ) → 1 ≤ count → count < 32 → from + 33 ≤ length xs → from ≤ start → start + count ≤ from + 33
-    → Decides (eqb (bit_and (marked from xs / 2 ^ (start - from)) (1 * 2 ^ (count - 1) % 2 ^ 64 - 1)) 0) (IsStrictlyIncreasing (take count (drop start xs)))
+    → Decides (eqb (bit_and (matched from xs / 2 ^ (start - from)) (1 * 2 ^ (count - 1) % 2 ^ 64 - 1)) 0) (IsStrictlyIncreasing (take count (drop start xs)))
 rises_tested from start count xs some few room before within =
     let s : ℕ = start - from in
     let bs : List Bool = drop s (falls from xs) in
@@ -123,9 +123,9 @@ rises_tested from start count xs some few room before within =
     let next : from + (s + k + 1) ≡ start + (k + 1) = omega arith in
     get_or-drop s (falls from xs) k false ∙ fall_at from xs (s + k) room (omega arith)
     ∙ ap (λ (n : ℕ). leb (get_or xs n 0) (get_or xs (from + (s + k)) 0)) next ∙ ap (λ (n : ℕ). leb (get_or xs (start + (k + 1)) 0) (get_or xs n 0)) same in
-    let cut : bit_and (marked from xs / 2 ^ s) (1 * 2 ^ (count - 1) % 2 ^ 64 - 1) ≡ mask_l bs % 2 ^ (count - 1) =
-    ap (λ (k : ℕ). bit_and (marked from xs / 2 ^ s) (k - 1)) (one_shl (count - 1) 64 (omega arith)) ∙ and_mask (marked from xs / 2 ^ s) (count - 1)
-    ∙ ap (λ (k : ℕ). k / 2 ^ s % 2 ^ (count - 1)) (marked_is from xs room) ∙ ap (λ (k : ℕ). k % 2 ^ (count - 1)) (mask_drop s (falls from xs)) in (
+    let cut : bit_and (matched from xs / 2 ^ s) (1 * 2 ^ (count - 1) % 2 ^ 64 - 1) ≡ mask_l bs % 2 ^ (count - 1) =
+    ap (λ (k : ℕ). bit_and (matched from xs / 2 ^ s) (k - 1)) (one_shl (count - 1) 64 (omega arith)) ∙ and_mask (matched from xs / 2 ^ s) (count - 1)
+    ∙ ap (λ (k : ℕ). k / 2 ^ s % 2 ^ (count - 1)) (matched_is from xs room) ∙ ap (λ (k : ℕ). k % 2 ^ (count - 1)) (mask_drop s (falls from xs)) in (
       λ e k less.
           let none = none_of (count - 1) bs (sym cut ∙ eqb-true _ 0 e) k (omega arith) in
           let up = above (get_or xs (start + k) 0) (get_or xs (start + (k + 1)) 0) (sym (fall k (omega arith)) ∙ none) in

@@ -107,8 +107,8 @@ blocks_read count body is =
     let counts : List ℕ = take many (drop (1 + slice_len many) body) in
     let bytes : List ℕ = drop (1 + slice_len many + many) body in
     let ps : List (ℕ × List ℕ) = build hs counts bytes in
-    let (are, text) = blocks_are count body is in
+    let (are, encoding) = blocks_are count body is in
     let same : block_numbers body ≡ join 256 ps = numbers_built hs counts bytes in (
       subst (IsRising 0 65536) (sym same) (join_rises 256 0 256 ps are),
-      ap blocks same ∙ ap blocks_of (parts_join 256 0 256 ps are) ∙ text,
+      ap blocks same ∙ ap blocks_of (parts_join 256 0 256 ps are) ∙ encoding,
     )

@@ -4,13 +4,13 @@ use Rattle.std.specs.List.{filter, range_with_len}
 use Rattle.std.proofs.Math.Bool.{and_comm}
 use Rattle.std.proofs.lemmas.Bool.{ne_eqb}
 use Rattle.bitpack_sets.proofs.AnswerLaws.{each, none_pass, those_part, those_same}
-use Rattle.bitpack_sets.proofs.CombineLaws.{holds_none}
+use Rattle.bitpack_sets.proofs.CombineLaws.{apply_none}
 use Rattle.bitpack_sets.proofs.LoadLaws.{those_are}
 use Rattle.bitpack_sets.proofs.ReadLaws.{eqb_same}
 use Rattle.bitpack_sets.proofs.SliceLaws.{rising_room}
 use Rattle.bitpack_sets.specs.Bitmaps.{has_bit}
-use Rattle.bitpack_sets.specs.Lists.{in_bitmap, keeps}
-use Rattle.bitpack_sets.specs.Operations.{answer, combined, holds, those}
+use Rattle.bitpack_sets.specs.Lists.{in_bitmap, retains}
+use Rattle.bitpack_sets.specs.Operations.{answer, apply, combined, those}
 use Rattle.bitpack_sets.specs.Reads.{has}
 use Rattle.bitpack_sets.specs.Sets.{IsRising}
 use Rattle.bitpack_sets.specs.declared.operation.Operation.{Operation}
@@ -78,9 +78,9 @@ of_key key p q small below above own =
 pub answer_of_key : (operation : Operation) (key : ℕ) (xs ys : List ℕ) → key < 65536 → AreOf key xs → AreOf key ys
     → answer operation xs ys ≡ map (λ low. key * 65536 + low) (combined 65536 operation (lows_in xs) (lows_in ys))
 answer_of_key operation key xs ys small a b =
-    of_key key (λ x. holds operation (has x xs) (has x ys)) (λ x. holds operation (has x (lows_in xs)) (has x (lows_in ys))) small
-    (λ x h. holds_none operation (has x xs) (has x ys) (of_below key x xs a h) (of_below key x ys b h))
-    (λ x h. holds_none operation (has x xs) (has x ys) (of_above key x xs a h) (of_above key x ys b h))
+    of_key key (λ x. apply operation (has x xs) (has x ys)) (λ x. apply operation (has x (lows_in xs)) (has x (lows_in ys))) small
+    (λ x h. apply_none operation (has x xs) (has x ys) (of_below key x xs a h) (of_below key x ys b h))
+    (λ x h. apply_none operation (has x xs) (has x ys) (of_above key x xs a h) (of_above key x ys b h))
     (λ x h. each operation (has (key * 65536 + x) xs) (has x (lows_in xs)) (has (key * 65536 + x) ys) (has x (lows_in ys)) (of_own key x xs a) (of_own key x ys b))
 
 -- ---- ids that are looked up
@@ -102,36 +102,36 @@ those_of n p xs r = filter_both (λ x. has x xs) p (range_with_len 0 n) ∙ ap (
 abbrev pub looks : Bool → Operation
 looks there = cond there And AndNot
 
-keeps_own : (there : Bool) (key x : ℕ) (numbers : List ℕ) → x < 65536 → keeps there numbers (key * 65536 + x) ≡ cond there (has x numbers) (not (has x numbers))
-keeps_own there key x numbers h = let e : (key * 65536 + x) % 65536 ≡ x = omega arith in ap (λ (n : ℕ). cond there (has n numbers) (not (has n numbers))) e
+retains_own : (there : Bool) (key x : ℕ) (numbers : List ℕ) → x < 65536 → retains there numbers (key * 65536 + x) ≡ cond there (has x numbers) (not (has x numbers))
+retains_own there key x numbers h = let e : (key * 65536 + x) % 65536 ≡ x = omega arith in ap (λ (n : ℕ). cond there (has n numbers) (not (has n numbers))) e
 
-looked : (there p q : Bool) → (p && cond there q (not q)) ≡ holds (looks there) p q
+looked : (there p q : Bool) → (p && cond there q (not q)) ≡ apply (looks there) p q
 looked true p q = refl
 looked false p q = refl
 
 pub filter_of_key : (there : Bool) (key : ℕ) (xs numbers : List ℕ) → key < 65536 → IsRising 0 (2 ^ 32) xs → AreOf key xs
-    → filter (keeps there numbers) xs ≡ map (λ low. key * 65536 + low) (combined 65536 (looks there) (lows_in xs) numbers)
+    → filter (retains there numbers) xs ≡ map (λ low. key * 65536 + low) (combined 65536 (looks there) (lows_in xs) numbers)
 filter_of_key there key xs numbers small r a =
-    sym (those_of (2 ^ 32) (keeps there numbers) xs r)
-    ∙ of_key key (λ x. has x xs && keeps there numbers x) (λ x. holds (looks there) (has x (lows_in xs)) (has x numbers)) small
-    (λ x h. ap (λ (b : Bool). b && keeps there numbers x) (of_below key x xs a h))
-    (λ x h. ap (λ (b : Bool). b && keeps there numbers x) (of_above key x xs a h))
-    (λ x h. ap (λ (b : Bool). b && keeps there numbers (key * 65536 + x)) (of_own key x xs a) ∙ ap (λ (b : Bool). has x (lows_in xs) && b) (keeps_own there key x numbers h)
+    sym (those_of (2 ^ 32) (retains there numbers) xs r)
+    ∙ of_key key (λ x. has x xs && retains there numbers x) (λ x. apply (looks there) (has x (lows_in xs)) (has x numbers)) small
+    (λ x h. ap (λ (b : Bool). b && retains there numbers x) (of_below key x xs a h))
+    (λ x h. ap (λ (b : Bool). b && retains there numbers x) (of_above key x xs a h))
+    (λ x h. ap (λ (b : Bool). b && retains there numbers (key * 65536 + x)) (of_own key x xs a) ∙ ap (λ (b : Bool). has x (lows_in xs) && b) (retains_own there key x numbers h)
     ∙ looked there (has x (lows_in xs)) (has x numbers))
 
 -- ---- a bitmap of low 16 bits
 
-in_marked : (high bit own : Bool) → bit ≡ own → (high ≡ false → own ≡ false) → (high && bit) ≡ own
-in_marked true bit own e none = e
-in_marked false bit own e none = sym (none refl)
+in_matched : (high bit own : Bool) → bit ≡ own → (high ≡ false → own ≡ false) → (high && bit) ≡ own
+in_matched true bit own e none = e
+in_matched false bit own e none = sym (none refl)
 
 pub mixed_of_key : (operation : Operation) (numbers xs highs words : List ℕ) → ((x : ℕ) → has_bit words x ≡ has x xs) → ((x : ℕ) → has_bit highs (x / 256) ≡ false → has x xs ≡ false)
-    → those 65536 (λ x. holds operation (has x numbers) (in_bitmap highs words x)) ≡ combined 65536 operation numbers xs
+    → those 65536 (λ x. apply operation (has x numbers) (in_bitmap highs words x)) ≡ combined 65536 operation numbers xs
 mixed_of_key operation numbers xs highs words bits none =
-    those_same 65536 (λ x. holds operation (has x numbers) (in_bitmap highs words x)) (λ x. holds operation (has x numbers) (has x xs))
-    (λ x h. ap (holds operation (has x numbers)) (in_marked (has_bit highs (x / 256)) (has_bit words x) (has x xs) (bits x) (none x)))
+    those_same 65536 (λ x. apply operation (has x numbers) (in_bitmap highs words x)) (λ x. apply operation (has x numbers) (has x xs))
+    (λ x h. ap (apply operation (has x numbers)) (in_matched (has_bit highs (x / 256)) (has_bit words x) (has x xs) (bits x) (none x)))
 
 -- ---- the two sets exchanged
 
 pub and_turned : (n : ℕ) (xs ys : List ℕ) → combined n And xs ys ≡ combined n And ys xs
-and_turned n xs ys = those_same n (λ x. holds And (has x xs) (has x ys)) (λ x. holds And (has x ys) (has x xs)) (λ x h. and_comm (has x xs) (has x ys))
+and_turned n xs ys = those_same n (λ x. apply And (has x xs) (has x ys)) (λ x. apply And (has x ys) (has x xs)) (λ x h. and_comm (has x xs) (has x ys))

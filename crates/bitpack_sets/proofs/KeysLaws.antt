@@ -11,7 +11,7 @@ use Rattle.bitpack_sets.proofs.FoldLaws.{swapped_answer}
 use Rattle.bitpack_sets.proofs.RaisedLaws.{map_raised}
 use Rattle.bitpack_sets.proofs.ReadLaws.{has_below}
 use Rattle.bitpack_sets.specs.Bitmaps.{bitmap_numbers, has_bit}
-use Rattle.bitpack_sets.specs.Folds.{found, ids_of_keys, joined, marked, swapped}
+use Rattle.bitpack_sets.specs.Folds.{found, has_number, ids_of_keys, joined, swapped}
 use Rattle.bitpack_sets.specs.Operations.{answer_all, folded, those}
 use Rattle.bitpack_sets.specs.Reads.{has}
 use Rattle.bitpack_sets.specs.Sets.{IsRising}
@@ -26,35 +26,35 @@ those_more_part p n m =
     let low : 0 + n ≡ n + 0 = omega arith in
     those_split p 0 n m ∙ ap (λ (xs : List ℕ). filter p (range_with_len 0 n) ++ xs) (ap (λ (a : ℕ). filter p (range_with_len a m)) low ∙ those_raised p n 0 m)
 
-pub found_at : (highs words : List (List ℕ)) (k i : ℕ) → i < 65536 → found highs words (65536 * k + i) ≡ marked (get_or highs k []) (get_or words k []) i
+pub found_at : (highs words : List (List ℕ)) (k i : ℕ) → i < 65536 → found highs words (65536 * k + i) ≡ has_number (get_or highs k []) (get_or words k []) i
 unfolding found
 found_at highs words k i h =
     let q : (65536 * k + i) / 65536 ≡ k = omega arith in
     let r : (65536 * k + i) % 65536 ≡ i = omega arith in
-    ap (λ (n : ℕ). marked (get_or highs n []) (get_or words n []) ((65536 * k + i) % 65536)) q ∙ ap (marked (get_or highs k []) (get_or words k [])) r
+    ap (λ (n : ℕ). has_number (get_or highs n []) (get_or words n []) ((65536 * k + i) % 65536)) q ∙ ap (has_number (get_or highs k []) (get_or words k [])) r
 
-pub found_key : (highs words : List (List ℕ)) (k i : ℕ) → i / 65536 ≡ k → found highs words i ≡ marked (get_or highs k []) (get_or words k []) (i % 65536)
+pub found_key : (highs words : List (List ℕ)) (k i : ℕ) → i / 65536 ≡ k → found highs words i ≡ has_number (get_or highs k []) (get_or words k []) (i % 65536)
 unfolding found
-found_key highs words k i e = ap (λ (n : ℕ). marked (get_or highs n []) (get_or words n []) (i % 65536)) e
+found_key highs words k i e = ap (λ (n : ℕ). has_number (get_or highs n []) (get_or words n []) (i % 65536)) e
 
-found_set : (highs words : List (List ℕ)) (k i : ℕ) (hs ws : List ℕ) → k < length highs → k < length words → i / 65536 ≡ k → found (set highs k hs) (set words k ws) i ≡ marked hs ws (i % 65536)
+found_set : (highs words : List (List ℕ)) (k i : ℕ) (hs ws : List ℕ) → k < length highs → k < length words → i / 65536 ≡ k → found (set highs k hs) (set words k ws) i ≡ has_number hs ws (i % 65536)
 found_set highs words k i hs ws h w e =
     found_key (set highs k hs) (set words k ws) k i e
-    ∙ ap (λ (a : List ℕ). marked a (get_or (set words k ws) k []) (i % 65536)) (get_or-set_same highs k hs [] h)
-    ∙ ap (λ (b : List ℕ). marked hs b (i % 65536)) (get_or-set_same words k ws [] w)
+    ∙ ap (λ (a : List ℕ). has_number a (get_or (set words k ws) k []) (i % 65536)) (get_or-set_same highs k hs [] h)
+    ∙ ap (λ (b : List ℕ). has_number hs b (i % 65536)) (get_or-set_same words k ws [] w)
 
 found_other : (highs words : List (List ℕ)) (k i : ℕ) (hs ws : List ℕ) → i / 65536 ≢ k → found (set highs k hs) (set words k ws) i ≡ found highs words i
 found_other highs words k i hs ws apart =
     found_key (set highs k hs) (set words k ws) (i / 65536) i refl
-    ∙ ap (λ (a : List ℕ). marked a (get_or (set words k ws) (i / 65536) []) (i % 65536)) (get_or-set_other highs k (i / 65536) hs [] (λ e. apart (omega arith)))
-    ∙ ap (λ (b : List ℕ). marked (get_or highs (i / 65536) []) b (i % 65536)) (get_or-set_other words k (i / 65536) ws [] (λ e. apart (omega arith)))
+    ∙ ap (λ (a : List ℕ). has_number a (get_or (set words k ws) (i / 65536) []) (i % 65536)) (get_or-set_other highs k (i / 65536) hs [] (λ e. apart (omega arith)))
+    ∙ ap (λ (b : List ℕ). has_number (get_or highs (i / 65536) []) b (i % 65536)) (get_or-set_other words k (i / 65536) ws [] (λ e. apart (omega arith)))
     ∙ sym (found_key highs words (i / 65536) i refl)
 
 -- one key more is combined
 pub done_more : (takes : Bool) (operation : Operation) (highs words highs' words' : List (List ℕ)) (hs ws xs lows : List ℕ) (base k : ℕ) → k < length highs → k < length words
     → ((i : ℕ) → i < 65536 * k → found highs words i ≡ joined takes operation (found highs' words' i) (has (base * 65536 + i) xs))
     → get_or highs k [] ≡ get_or highs' k [] → get_or words k [] ≡ get_or words' k []
-    → ((x : ℕ) → x < 65536 → marked hs ws x ≡ joined takes operation (marked (get_or highs k []) (get_or words k []) x) (has x lows))
+    → ((x : ℕ) → x < 65536 → has_number hs ws x ≡ joined takes operation (has_number (get_or highs k []) (get_or words k []) x) (has x lows))
     → ((x : ℕ) → x / 65536 ≡ base + k → has x xs ≡ has (x % 65536) lows)
     → (i : ℕ) → i < 65536 * (k + 1) → found (set highs k hs) (set words k ws) i ≡ joined takes operation (found highs' words' i) (has (base * 65536 + i) xs)
 done_more takes operation highs words highs' words' hs ws xs lows base k h w before same same' new own i small = elim (cases_lt i (65536 * k)) [
@@ -64,17 +64,17 @@ done_more takes operation highs words highs' words' hs ws xs lows base k h w bef
       let key : (base * 65536 + i) / 65536 ≡ base + k = omega arith in
       let low : (base * 65536 + i) % 65536 ≡ i % 65536 = omega arith in
       found_set highs words k i hs ws h w e ∙ new (i % 65536) (omega arith)
-      ∙ ap (λ (a : List ℕ). joined takes operation (marked a (get_or words k []) (i % 65536)) (has (i % 65536) lows)) same
-      ∙ ap (λ (b : List ℕ). joined takes operation (marked (get_or highs' k []) b (i % 65536)) (has (i % 65536) lows)) same'
+      ∙ ap (λ (a : List ℕ). joined takes operation (has_number a (get_or words k []) (i % 65536)) (has (i % 65536) lows)) same
+      ∙ ap (λ (b : List ℕ). joined takes operation (has_number (get_or highs' k []) b (i % 65536)) (has (i % 65536) lows)) same'
       ∙ ap (λ (f : Bool). joined takes operation f (has (i % 65536) lows)) (sym (found_key highs' words' k i e))
       ∙ ap (joined takes operation (found highs' words' i)) (sym (own (base * 65536 + i) key ∙ ap (λ (n : ℕ). has n lows) low)))
 ]
 
--- one id more is marked
-pub few_marked : (highs words : List (List ℕ)) (hs ws : List ℕ) (base id k i : ℕ) → k < length highs → k < length words → id / 65536 ≡ base + k
-    → ((x : ℕ) → x < 65536 → marked hs ws x ≡ (marked (get_or highs k []) (get_or words k []) x || (x == id % 65536)))
+-- one id more is set
+pub few_inserted : (highs words : List (List ℕ)) (hs ws : List ℕ) (base id k i : ℕ) → k < length highs → k < length words → id / 65536 ≡ base + k
+    → ((x : ℕ) → x < 65536 → has_number hs ws x ≡ (has_number (get_or highs k []) (get_or words k []) x || (x == id % 65536)))
     → found (set highs k hs) (set words k ws) i ≡ (found highs words i || (base * 65536 + i == id))
-few_marked highs words hs ws base id k i h w key new = elim (cases_eq (i / 65536) k) [
+few_inserted highs words hs ws base id k i h w key new = elim (cases_eq (i / 65536) k) [
   | inl same ↦
       found_set highs words k i hs ws h w same ∙ new (i % 65536) (omega arith)
       ∙ ap (λ (f : Bool). f || (i % 65536 == id % 65536)) (sym (found_key highs words k i same))
@@ -88,8 +88,8 @@ few_marked highs words hs ws base id k i h w key new = elim (cases_eq (i / 65536
 ]
 
 -- an id of a lower key is none of theirs
-pub not_marked : (highs words : List (List ℕ)) (base id i : ℕ) → id / 65536 < base → found highs words i ≡ (found highs words i || (base * 65536 + i == id))
-not_marked highs words base id i h =
+pub not_matched : (highs words : List (List ℕ)) (base id i : ℕ) → id / 65536 < base → found highs words i ≡ (found highs words i || (base * 65536 + i == id))
+not_matched highs words base id i h =
     sym (or-false (found highs words i)) ∙ ap (λ (t : Bool). found highs words i || t) (sym (ne_eqb (base * 65536 + i) id (λ e. absurd (omega arith))))
 
 or_moved : (a b e : Bool) → ((a || b) || e) ≡ (a || (e || b))
@@ -115,12 +115,12 @@ none_of_lower x bound (y ∷ ys) h m =
     let first = All-head (λ z. z / 65536 < bound) y ys h in
     ap (λ (b : Bool). b || has x ys) (ne_eqb y x (λ e. omega arith)) ∙ none_of_lower x bound ys (All-tail (λ z. z / 65536 < bound) y ys h) m
 
--- a number is marked: the bits of its high byte are cleared before, if it does not occur
-pub mark_new : (low x : ℕ) (highs highs' words middle words' : List ℕ) → has_bit highs (low / 256) ≡ false → ((k : ℕ) → has_bit highs' k ≡ ((k == low / 256) || has_bit highs k))
+-- a number is set: the bits of its high byte are cleared before, if it does not occur
+pub insert_new : (low x : ℕ) (highs highs' words middle words' : List ℕ) → has_bit highs (low / 256) ≡ false → ((k : ℕ) → has_bit highs' k ≡ ((k == low / 256) || has_bit highs k))
     → (x / 256 ≡ low / 256 → has_bit middle x ≡ false) → (x / 256 ≢ low / 256 → has_bit middle x ≡ has_bit words x) → has_bit words' x ≡ ((x == low) || has_bit middle x)
-    → marked highs' words' x ≡ (marked highs words x || (x == low))
-unfolding marked
-mark_new low x highs highs' words middle words' none more cleared kept new = elim (cases_eq (x / 256) (low / 256)) [
+    → has_number highs' words' x ≡ (has_number highs words x || (x == low))
+unfolding has_number
+insert_new low x highs highs' words middle words' none more cleared retained new = elim (cases_eq (x / 256) (low / 256)) [
   | inl same ↦
       ap (λ (b : Bool). b && has_bit words' x) (more (x / 256) ∙ ap (λ (b : Bool). b || has_bit highs (x / 256)) (eq-eqb (x / 256) (low / 256) same))
       ∙ new ∙ ap (λ (b : Bool). (x == low) || b) (cleared same) ∙ or-false (x == low)
@@ -128,7 +128,7 @@ mark_new low x highs highs' words middle words' none more cleared kept new = eli
   | inr apart ↦ (
       let differ : (x == low) ≡ false = ne_eqb x low (λ e. apart (ap (λ (n : ℕ). n / 256) e)) in
       ap (λ (b : Bool). b && has_bit words' x) (more (x / 256) ∙ ap (λ (b : Bool). b || has_bit highs (x / 256)) (ne_eqb (x / 256) (low / 256) apart))
-      ∙ ap (λ (b : Bool). has_bit highs (x / 256) && b) (new ∙ ap (λ (b : Bool). b || has_bit middle x) differ ∙ kept apart)
+      ∙ ap (λ (b : Bool). has_bit highs (x / 256) && b) (new ∙ ap (λ (b : Bool). b || has_bit middle x) differ ∙ retained apart)
       ∙ sym (ap (λ (b : Bool). (has_bit highs (x / 256) && has_bit words x) || b) differ ∙ or-false (has_bit highs (x / 256) && has_bit words x)))
 ]
 
@@ -138,10 +138,10 @@ and_or true w false f = sym (or-false w)
 and_or false w true f = f refl
 and_or false w false f = refl
 
-pub mark_old : (low x : ℕ) (highs words words' : List ℕ) → has_bit highs (low / 256) ≡ true → has_bit words' x ≡ ((x == low) || has_bit words x)
-    → marked highs words' x ≡ (marked highs words x || (x == low))
-unfolding marked
-mark_old low x highs words words' there new =
+pub insert_old : (low x : ℕ) (highs words words' : List ℕ) → has_bit highs (low / 256) ≡ true → has_bit words' x ≡ ((x == low) || has_bit words x)
+    → has_number highs words' x ≡ (has_number highs words x || (x == low))
+unfolding has_number
+insert_old low x highs words words' there new =
     ap (λ (b : Bool). has_bit highs (x / 256) && b) new
     ∙ and_or (has_bit highs (x / 256)) (has_bit words x) (x == low) (λ e. elim (cases_eq x low) [
       | inl same ↦ ap (λ (n : ℕ). has_bit highs (n / 256)) same ∙ there
@@ -150,7 +150,7 @@ mark_old low x highs words words' there new =
 
 key_numbers : (highs words : List (List ℕ)) (k : ℕ) (own : List ℕ) → ((h : ℕ) → h < 256 → has h own ≡ has_bit (get_or highs k []) h)
     → those 65536 (λ i. found highs words (65536 * k + i)) ≡ bitmap_numbers own (get_or words k [])
-unfolding marked
+unfolding has_number
 key_numbers highs words k own are =
     those_same 65536 _ _ (λ i small. found_at highs words k i small ∙ ap (λ (b : Bool). b && has_bit (get_or words k []) i) (sym (are (i / 256) (omega arith))))
 

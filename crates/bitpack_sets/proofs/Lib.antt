@@ -1,5 +1,4 @@
 -- The lemmas of this crate.
-mod AmongLaws
 mod AnswerLaws
 mod ArrayLaws
 mod BitRows
@@ -11,9 +10,9 @@ mod BodyFilled
 mod BodyLaws
 mod ByteLaws
 mod BytesWritten
+mod ChunkEncodings
 mod ChunkLaws
 mod ChunkReads
-mod ChunkTexts
 mod CombineLaws
 mod CopyLaws
 mod CountLaws
@@ -22,6 +21,7 @@ mod CursorLaws
 mod CutLaws
 mod DecodeLaws
 mod EncodeLaws
+mod EncodingLaws
 mod EndsFilled
 mod EntriesFilled
 mod EntryLaws
@@ -33,8 +33,8 @@ mod FoldLaws
 mod FollowLaws
 mod FormLaws
 mod FourLaws
+mod FrontEncodings
 mod FrontLaws
-mod FrontTexts
 mod GapLaws
 mod HalfLaws
 mod IncreaseLaws
@@ -42,13 +42,15 @@ mod JoinLaws
 mod JoinReads
 mod KeyLaws
 mod KeysLaws
+mod KnownLaws
 mod ListLaws
 mod LoadLaws
 mod LongFilled
 mod LongLaws
 mod LowestLaws
-mod MarkLaws
+mod MatchLaws
 mod MeasureLaws
+mod MemberLaws
 mod MergeLaws
 mod MixLaws
 mod MoreLaws
@@ -58,14 +60,14 @@ mod PartLaws
 mod PartsFilled
 mod PastLaws
 mod PickLaws
-mod PlaceLaws
-mod PlacedLaws
+mod PositionLaws
 mod QueryIds
 mod QueryLaws
 mod RaisedLaws
 mod RangeLaws
 mod ReadLaws
 mod RefusalLaws
+mod RetainedLaws
 mod RoomLaws
 mod RowLaws
 mod RunLaws
@@ -76,8 +78,6 @@ mod SliceLaws
 mod StepLaws
 mod SumsLaws
 mod TestLaws
-mod TextLaws
-mod ToldLaws
 mod UnitedLaws
 mod UnpackLaws
 mod WalkLaws

@@ -49,12 +49,12 @@ at_short wide base i bytes e h =
     let size = length-map (integers_of wide bytes) (λ x. base + x) in
     get_or-map (λ x. base + x) (integers_of wide bytes) i 0 0 (omega arith) ∙ ap (λ (b : Bool). base + get_or (cond b (quads_of bytes) (pairs_of bytes)) i 0) e
 
--- ---- marks of numbers
+-- ---- bits of numbers
 
 -- a number more has its bit
-pub mark_more : (x low i : ℕ) (lows words new : List ℕ) → i < length lows → low ≡ get_or lows i 0 → has_bit new x ≡ (eqb x low || has_bit words x)
+pub insert_more : (x low i : ℕ) (lows words new : List ℕ) → i < length lows → low ≡ get_or lows i 0 → has_bit new x ≡ (eqb x low || has_bit words x)
     → has_bit words x ≡ has x (take i lows) → has_bit new x ≡ has x (take (i + 1) lows)
-mark_more x low i lows words new h e now before =
+insert_more x low i lows words new h e now before =
     now ∙ ap (λ (b : Bool). eqb x low || b) before ∙ ap (λ (b : Bool). b || has x (take i lows)) (eqb_turned x low ∙ ap (λ (n : ℕ). eqb n x) e) ∙ sym (has_more x lows i h)
 
 same_high : (x low : ℕ) → eqb (x / 256) (low / 256) ≡ false → eqb low x ≡ false

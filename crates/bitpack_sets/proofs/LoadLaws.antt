@@ -12,8 +12,8 @@ use Rattle.std.proofs.lemmas.List.Folds.{list_any-append, list_any_more}
 use Rattle.bitpack_sets.proofs.BlockReads.{slice_there}
 use Rattle.bitpack_sets.proofs.CutLaws.{counts_cut, counts_len, cut, highs_cut, slices_cut}
 use Rattle.bitpack_sets.proofs.HalfLaws.{pairs_at, pairs_len}
-use Rattle.bitpack_sets.proofs.OnesLaws.{kept_rise}
-use Rattle.bitpack_sets.proofs.ReadLaws.{eqb_same, has_below, has_kept, in_numbers, not_in, place_fits, rank_kept, rank_less, slice_at}
+use Rattle.bitpack_sets.proofs.OnesLaws.{filtered_rise}
+use Rattle.bitpack_sets.proofs.ReadLaws.{eqb_same, has_below, has_filtered, in_numbers, not_in, offset_fits, rank_filtered, rank_less, slice_at}
 use Rattle.bitpack_sets.proofs.SliceLaws.{rising_room}
 use Rattle.bitpack_sets.proofs.NumberReads.{quads_at, quads_len}
 use Rattle.bitpack_sets.specs.Bitmaps.{has_bit, has_high}
@@ -40,10 +40,10 @@ pub bit_own : (from k h x : ℕ) (words bits : List ℕ) → from ≡ 4 * h → 
 unfolding has_bit
 bit_own from k h x words bits e f size room own =
     let start : length (take from words) ≡ from = length-take-le from words room in
-    let place : x / 64 - from ≡ x % 256 / 64 = omega arith in
+    let offset : x / 64 - from ≡ x % 256 / 64 = omega arith in
     bit_same (x / 64) (x % 256 / 64) (x % 64) (x % 256 % 64) (put_mid from k words bits) bits
     (get_or-append_right (take from words) (bits ++ post_of from k words) from (x / 64) 0 start (omega arith)
-    ∙ ap (λ (i : ℕ). get_or (bits ++ post_of from k words) i 0) place
+    ∙ ap (λ (i : ℕ). get_or (bits ++ post_of from k words) i 0) offset
     ∙ get_or_append_left bits (post_of from k words) 0 (x % 256 / 64) (omega arith))
     (omega arith)
 
@@ -58,11 +58,11 @@ bit_rest from k h x words bits e f size room apart =
       | inl below ↦ get_or_append_left (take from words) (bits ++ post_of from k words) 0 (x / 64) (omega arith) ∙ get_or-take from words (x / 64) 0 below
       | inr more ↦ (
           let past : 4 ≤ x / 64 - from = elim (cases_lt (x / 64 - from) 4) [ inl few ↦ absurd (apart (omega arith)) | inr many ↦ many ] in
-          let place : from + (k + (x / 64 - from - 4)) ≡ x / 64 = omega arith in
+          let offset : from + (k + (x / 64 - from - 4)) ≡ x / 64 = omega arith in
           get_or-append_right (take from words) (bits ++ post_of from k words) from (x / 64) 0 start more
           ∙ get_or-append_right bits (post_of from k words) 4 (x / 64 - from) 0 size past
           ∙ get_or-drop k (drop from words) (x / 64 - from - 4) 0 ∙ get_or-drop from words (k + (x / 64 - from - 4)) 0
-          ∙ ap (λ (i : ℕ). get_or words i 0) place)
+          ∙ ap (λ (i : ℕ). get_or words i 0) offset)
     ])
     refl
 
@@ -145,8 +145,8 @@ high_written P i from k highs words bits h e f size room own before x small is =
       let whole : 256 * get_or highs i 0 + x % 256 ≡ x = omega arith in
       bit_own from k (get_or highs i 0) x words bits e f size room (sym same) ∙ own (x % 256) (omega arith) ∙ ap P whole)
   | inr (other, apart) ↦ (
-      let among : has (x / 256) (take i highs) ≡ true = sym (ap (λ (b : Bool). b || has (x / 256) (take i highs)) other) ∙ sym (has_more (x / 256) highs i h) ∙ is in
-      bit_rest from k (get_or highs i 0) x words bits e f size room (λ s. apart (sym s)) ∙ before x small among)
+      let member : has (x / 256) (take i highs) ≡ true = sym (ap (λ (b : Bool). b || has (x / 256) (take i highs)) other) ∙ sym (has_more (x / 256) highs i h) ∙ is in
+      bit_rest from k (get_or highs i 0) x words bits e f size room (λ s. apart (sym s)) ∙ before x small member)
 ]
 
 -- ---- the numbers below a bound that pass a test
@@ -154,44 +154,44 @@ high_written P i from k highs words bits h e f size room own before x small is =
 -- one of them is among them
 pub has_those : (P : ℕ → Bool) (x bound : ℕ) → x < bound → has x (those bound P) ≡ P x
 unfolding those
-has_those P x bound h = has_kept P x 0 bound (omega arith) (omega arith)
+has_those P x bound h = has_filtered P x 0 bound (omega arith) (omega arith)
 
 -- as many are below a number as there are below this bound
 pub rank_those : (P : ℕ → Bool) (x bound : ℕ) → x ≤ bound → length (those x P) ≡ rank x (those bound P)
 unfolding those
-rank_those P x bound h = sym (rank_kept P x 0 bound x (omega arith) h)
+rank_those P x bound h = sym (rank_filtered P x 0 bound x (omega arith) h)
 
 pub those_rise : (P : ℕ → Bool) (bound : ℕ) → IsRising 0 bound (those bound P)
 unfolding those
-those_rise P bound = kept_rise P 0 bound bound (omega arith)
+those_rise P bound = filtered_rise P 0 bound bound (omega arith)
 
-pub kept_same : (P Q : ℕ → Bool) (low n : ℕ) → ((i : ℕ) → low ≤ i → i < low + n → P i ≡ Q i) → filter P (range_with_len low n) ≡ filter Q (range_with_len low n)
-kept_same P Q low zero e = refl
-kept_same P Q low (suc n) e =
+pub filtered_same : (P Q : ℕ → Bool) (low n : ℕ) → ((i : ℕ) → low ≤ i → i < low + n → P i ≡ Q i) → filter P (range_with_len low n) ≡ filter Q (range_with_len low n)
+filtered_same P Q low zero e = refl
+filtered_same P Q low (suc n) e =
     ap (λ (b : Bool). cond b (low ∷ filter P (range_with_len (low + 1) n)) (filter P (range_with_len (low + 1) n))) (e low (omega arith) (omega arith))
-    ∙ ap (λ (l : List ℕ). cond (Q low) (low ∷ l) l) (kept_same P Q (low + 1) n (λ i a b. e i (omega arith) (omega arith)))
+    ∙ ap (λ (l : List ℕ). cond (Q low) (low ∷ l) l) (filtered_same P Q (low + 1) n (λ i a b. e i (omega arith) (omega arith)))
 
-kept_all : (low high n : ℕ) (xs : List ℕ) → low + n ≡ high → IsRising low high xs → filter (λ i. has i xs) (range_with_len low n) ≡ xs
-kept_all low high zero [] e r = refl
-kept_all low high zero (y ∷ ys) e (a, r) = let room = rising_room (y + 1) high ys r in absurd (omega arith)
-kept_all low high (suc n) [] e r = kept_all (low + 1) high n [] (omega arith) (omega arith)
-kept_all low high (suc n) (y ∷ ys) e (a, r) = elim (cases_lt low y) [
+filtered_all : (low high n : ℕ) (xs : List ℕ) → low + n ≡ high → IsRising low high xs → filter (λ i. has i xs) (range_with_len low n) ≡ xs
+filtered_all low high zero [] e r = refl
+filtered_all low high zero (y ∷ ys) e (a, r) = let room = rising_room (y + 1) high ys r in absurd (omega arith)
+filtered_all low high (suc n) [] e r = filtered_all (low + 1) high n [] (omega arith) (omega arith)
+filtered_all low high (suc n) (y ∷ ys) e (a, r) = elim (cases_lt low y) [
   | inl less ↦
       ap (λ (b : Bool). cond b (low ∷ filter (λ i. has i (y ∷ ys)) (range_with_len (low + 1) n)) (filter (λ i. has i (y ∷ ys)) (range_with_len (low + 1) n)))
       (has_below low (low + 1) high (y ∷ ys) (omega arith, r) (omega arith))
-      ∙ kept_all (low + 1) high n (y ∷ ys) (omega arith) (omega arith, r)
+      ∙ filtered_all (low + 1) high n (y ∷ ys) (omega arith) (omega arith, r)
   | inr more ↦ (
       let same : y ≡ low = omega arith in
       ap (λ (b : Bool). cond (b || has low ys) (low ∷ filter (λ i. has i (y ∷ ys)) (range_with_len (low + 1) n)) (filter (λ i. has i (y ∷ ys)) (range_with_len (low + 1) n))) (eq-eqb y low same)
-      ∙ ap (λ (l : List ℕ). low ∷ l) (kept_same (λ i. has i (y ∷ ys)) (λ i. has i ys) (low + 1) n (λ i b c. ap (λ (d : Bool). d || has i ys) (ne_eqb y i (λ s. omega arith))))
-      ∙ ap (λ (l : List ℕ). low ∷ l) (kept_all (low + 1) high n ys (omega arith) (subst (λ (k : ℕ). IsRising (k + 1) high ys) same r))
+      ∙ ap (λ (l : List ℕ). low ∷ l) (filtered_same (λ i. has i (y ∷ ys)) (λ i. has i ys) (low + 1) n (λ i b c. ap (λ (d : Bool). d || has i ys) (ne_eqb y i (λ s. omega arith))))
+      ∙ ap (λ (l : List ℕ). low ∷ l) (filtered_all (low + 1) high n ys (omega arith) (subst (λ (k : ℕ). IsRising (k + 1) high ys) same r))
       ∙ ap (λ (k : ℕ). k ∷ ys) (sym same))
 ]
 
 -- increasing numbers are those that are among them
 pub those_are : (P : ℕ → Bool) (bound : ℕ) (xs : List ℕ) → IsRising 0 bound xs → ((i : ℕ) → i < bound → P i ≡ has i xs) → those bound P ≡ xs
 unfolding those
-those_are P bound xs r e = kept_same P (λ i. has i xs) 0 bound (λ i a b. e i (omega arith)) ∙ kept_all 0 bound bound xs (omega arith) r
+those_are P bound xs r e = filtered_same P (λ i. has i xs) 0 bound (λ i a b. e i (omega arith)) ∙ filtered_all 0 bound bound xs (omega arith) r
 
 -- ---- the slice of a high byte
 
@@ -201,7 +201,7 @@ high_split h i s = omega arith
 low_split : (h i : ℕ) → i < 256 → (256 * h + i) % 256 ≡ i
 low_split h i s = omega arith
 
--- a high byte that occurs has a place among the counts
+-- a high byte that occurs has a position among the counts
 pub index_within : (P : ℕ → Bool) (h index : ℕ) (counts : List ℕ) → length (those 256 P) ≡ length counts → index ≡ length (those h P) → h < 256 → P h ≡ true → index < length counts
 index_within P h index counts size e small is =
     let less = rank_less h (those 256 P) (has_those P h 256 small ∙ is) in
@@ -221,18 +221,18 @@ pub some_there : (P : ℕ → Bool) (h i index start : ℕ) (counts slices : Lis
 some_there P h i index start counts slices small less is long are e f =
     let count : ℕ = get_or counts index 0 + 1 in
     let high : (256 * h + i) / 256 ≡ h = high_split h i less in
-    let place : index ≡ rank ((256 * h + i) / 256) (those 256 P) = e ∙ rank_those P h 256 (omega arith) ∙ ap (λ (n : ℕ). rank n (those 256 P)) (sym high) in
-    let among : has ((256 * h + i) / 256) (those 256 P) ≡ true = ap (λ (n : ℕ). has n (those 256 P)) high ∙ has_those P h 256 small ∙ is in
+    let offset : index ≡ rank ((256 * h + i) / 256) (those 256 P) = e ∙ rank_those P h 256 (omega arith) ∙ ap (λ (n : ℕ). rank n (those 256 P)) (sym high) in
+    let member : has ((256 * h + i) / 256) (those 256 P) ≡ true = ap (λ (n : ℕ). has n (those 256 P)) high ∙ has_those P h 256 small ∙ is in
     ap (λ (m : ℕ). has i (slice_numbers count (take (slice_len count) (drop m slices)))) f
     ∙ ap (λ (n : ℕ). has n (slice_at index counts slices)) (sym (low_split h i less))
-    ∙ sym (in_numbers (256 * h + i) 0 index (those 256 P) counts slices place long (those_rise P 256) are among)
+    ∙ sym (in_numbers (256 * h + i) 0 index (those 256 P) counts slices offset long (those_rise P 256) are member)
 
 -- such a slice is there
 pub slice_found : (index start : ℕ) (counts slices : List ℕ) → AreSlices counts slices → index < length counts → start ≡ slices_len (take index counts)
     → HasSlice slices start (get_or counts index 0 + 1)
 slice_found index start counts slices are less e =
     let count : ℕ = get_or counts index 0 + 1 in
-    let fits = place_fits index counts slices are less in
+    let fits = offset_fits index counts slices are less in
     let is = subst (λ (n : ℕ). IsSlice count (take (slice_len count) (drop n slices))) (sym e) (slice_there index counts slices are less) in
     let few = rising_room 0 256 (slice_numbers count (take (slice_len count) (drop start slices))) is.rising in
     let size = is.count_is in
@@ -240,7 +240,7 @@ slice_found index start counts slices are less e =
 
 pub none_found : (bytes : List ℕ) → HasSlice bytes 0 0
 unfolding slice
-none_found bytes = record { few = omega arith; room = omega arith; slice = record { rising = omega arith; count_is = refl; text = refl } }
+none_found bytes = record { few = omega arith; room = omega arith; slice = record { rising = omega arith; count_is = refl; encoding = refl } }
 
 -- ---- a body of blocks
 

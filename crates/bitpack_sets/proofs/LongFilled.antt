@@ -7,7 +7,7 @@ use Rattle.bitpack_sets.proofs.BodyFilled.{one_set}
 use Rattle.bitpack_sets.proofs.LongLaws.{array_parts, flat_len, long_parts, sums_len}
 use Rattle.bitpack_sets.specs.Sets.{array, body, in_chunks, le_bytes, parts, sums}
 use Rattle.bitpack_sets.specs.Varints.{byte_count, number}
-use Rattle.bitpack_sets.specs.Written.{bodies, directory, ends_text, head, keys_text, sums_text}
+use Rattle.bitpack_sets.specs.Written.{bodies, directory, ends_encoding, head, keys_encoding, sums_encoding}
 
 pub array_size : (ids : List ℕ) → length (array ids) ≡ 1 + length (number (length ids)) + 4 * length ids
 array_size ids =
@@ -21,18 +21,18 @@ array_joined ids head first rest one a b =
     ap (λ (l : List ℕ). l ++ (first ++ rest)) (one_set head 6 one) ∙ ap (λ (l : List ℕ). 6 ∷ (l ++ rest)) a
     ∙ ap (λ (l : List ℕ). 6 ∷ (number (length ids) ++ l)) b ∙ sym (array_parts ids)
 
-pub keys_size : (ids : List ℕ) → length (keys_text ids) ≡ 2 * length (parts 65536 ids)
+pub keys_size : (ids : List ℕ) → length (keys_encoding ids) ≡ 2 * length (parts 65536 ids)
 keys_size ids =
     let ps : List (ℕ × List ℕ) = parts 65536 ids in
     flat_len 2 (map (λ chunk. chunk.0) ps) ∙ ap (λ n. 2 * n) (length-map ps (λ chunk. chunk.0))
 
-pub ends_size : (size start : ℕ) (ids : List ℕ) → length (ends_text size start ids) ≡ size * length (parts 65536 ids)
+pub ends_size : (size start : ℕ) (ids : List ℕ) → length (ends_encoding size start ids) ≡ size * length (parts 65536 ids)
 ends_size size start ids =
     let ps : List (ℕ × List ℕ) = parts 65536 ids in
     flat_len size (sums start (map length (bodies ids)))
     ∙ ap (λ n. size * n) (sums_len start (map length (bodies ids)) ∙ length-map (bodies ids) length ∙ length-map ps (λ chunk. body chunk.1))
 
-pub sums_size : (size before : ℕ) (ids : List ℕ) → length (sums_text size before ids) ≡ size * length (parts 65536 ids)
+pub sums_size : (size before : ℕ) (ids : List ℕ) → length (sums_encoding size before ids) ≡ size * length (parts 65536 ids)
 sums_size size before ids =
     let ps : List (ℕ × List ℕ) = parts 65536 ids in
     let counts : List ℕ = map (λ chunk. length chunk.1) ps in
@@ -41,25 +41,25 @@ sums_size size before ids =
 pub directory_size : (e z count : ℕ) (ids : List ℕ) → count ≡ length (parts 65536 ids) → length (directory e z ids) ≡ 2 * count + e * count + z * count + length (concat (bodies ids))
 directory_size e z count ids same =
     let b : List ℕ = concat (bodies ids) in
-    let one = length-append (keys_text ids) (ends_text e 0 ids ++ (sums_text z 0 ids ++ b)) in
-    let two = length-append (ends_text e 0 ids) (sums_text z 0 ids ++ b) in
-    let three = length-append (sums_text z 0 ids) b in
+    let one = length-append (keys_encoding ids) (ends_encoding e 0 ids ++ (sums_encoding z 0 ids ++ b)) in
+    let two = length-append (ends_encoding e 0 ids) (sums_encoding z 0 ids ++ b) in
+    let three = length-append (sums_encoding z 0 ids) b in
     let k = keys_size ids in
     let f = ends_size e 0 ids ∙ ap (λ n. e * n) (sym same) in
     let g = sums_size z 0 ids ∙ ap (λ n. z * n) (sym same) in
     omega arith
 
-pub chunks_text : (ids : List ℕ) → in_chunks ids
+pub chunks_encoding : (ids : List ℕ) → in_chunks ids
     ≡ 5 ∷ (number (length ids) ++ (number (length (parts 65536 ids)) ++ ((byte_count (length (concat (bodies ids))) + 16 * byte_count (length ids))
     ∷ directory (byte_count (length (concat (bodies ids)))) (byte_count (length ids)) ids)))
-chunks_text ids = long_parts ids
+chunks_encoding ids = long_parts ids
 
 pub chunks_size : (ids : List ℕ) (count size : ℕ) → count ≡ length (parts 65536 ids) → size ≡ length (concat (bodies ids))
     → length (in_chunks ids) ≡ 2 + length (number (length ids)) + length (number count) + length (directory (byte_count size) (byte_count (length ids)) ids)
 chunks_size ids count size a b =
     let d : List ℕ = directory (byte_count (length (concat (bodies ids)))) (byte_count (length ids)) ids in
     let s : ℕ = byte_count (length (concat (bodies ids))) + 16 * byte_count (length ids) in
-    let one = ap length (chunks_text ids) in
+    let one = ap length (chunks_encoding ids) in
     let two = length-append (number (length ids)) (number (length (parts 65536 ids)) ++ (s ∷ d)) in
     let three = length-append (number (length (parts 65536 ids))) (s ∷ d) in
     let four = ap (λ n. length (number n)) a in
@@ -97,7 +97,7 @@ chunks_joined ids front rest count chunks size e z n a b e_is z_is f r =
     ∙ ap (λ m. 5 ∷ (number (length ids) ++ (number (length (parts 65536 ids)) ++ ((m + 16 * z) ∷ directory m z ids)))) e_same
     ∙ ap (λ m. 5 ∷ (number (length ids) ++ (number (length (parts 65536 ids)) ++ ((byte_count (length (concat (bodies ids))) + 16 * m)
     ∷ directory (byte_count (length (concat (bodies ids)))) m ids)))) z_same
-    ∙ sym (chunks_text ids)
+    ∙ sym (chunks_encoding ids)
 
 pub few_times : (e most count : ℕ) → e ≤ most → e * count ≤ most * count
 few_times e most count h = mul-le-mul_right count h

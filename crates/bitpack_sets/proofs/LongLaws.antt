@@ -1,4 +1,4 @@
--- A text of chunks determines its ids.
+-- An encoding of chunks determines its ids.
 use Rattle.std.proofs.Common.{◌≡◌, ℕ, suc, ◌+◌, ◌*◌, ◌^◌, ◌<◌, ◌≤◌, List, [], ◌∷◌, ◌++◌, map, length, refl, sym, ap, ◌∙◌, arith, lit<, inl, inr, subst, length-append, mul-suc, append_assoc}
 use Rattle.std.specs.List.{concat, flat_map}
 use Rattle.std.proofs.lemmas.Bool.{cases_lt, cond_above, cond_below}
@@ -226,7 +226,7 @@ numbers_part back x y xs ys h k e =
 one_in_chunks : NumberReadsBack → (xs ys : List ℕ) → IsRising 0 (2 ^ 32) xs → IsRising 0 (2 ^ 32) ys → length xs ≤ 2 ^ 28 → length ys ≤ 2 ^ 28
     → in_chunks xs ≡ in_chunks ys → xs ≡ ys
 one_in_chunks back xs ys h k few few' e =
-    let tell : NumbersPart = numbers_part back in
+    let decide : NumbersPart = numbers_part back in
     let ps : List (ℕ × List ℕ) = parts 65536 xs in
     let qs : List (ℕ × List ℕ) = parts 65536 ys in
     let zero' : 0 * 65536 ≤ 0 = omega arith in
@@ -234,8 +234,8 @@ one_in_chunks back xs ys h k few few' e =
     let are' : AreParts 65536 0 65536 qs = parts_are 65536 0 65536 0 ys (lit< tt) zero' k in
     let whole : number (length xs) ++ (number (length ps) ++ after_counts (length xs) ps) ≡ number (length ys) ++ (number (length qs) ++ after_counts (length ys) qs) =
     tails _ _ (sym (long_parts xs) ∙ e ∙ long_parts ys) in
-    let (n, later) = tell (length xs) (length ys) _ _ (small (length xs) few) (small (length ys) few') whole in
-    let (many, last) = tell (length ps) (length qs) _ _ (key_count ps are) (key_count qs are') later in
+    let (n, later) = decide (length xs) (length ys) _ _ (small (length xs) few) (small (length ys) few') whole in
+    let (many, last) = decide (length ps) (length qs) _ _ (key_count ps are) (key_count qs are') later in
     let count : total (counts ps) ≡ length xs = sym (join_len ps) ∙ ap length (join_parts 65536 xs) in
     let count' : total (counts qs) ≡ length xs = sym (join_len qs) ∙ ap length (join_parts 65536 ys) ∙ sym n in
     let last' : after_counts (length xs) ps ≡ after_counts (length xs) qs = last ∙ ap (λ (m : ℕ). after_counts m qs) (sym n) in

@@ -10,9 +10,9 @@ use Rattle.bitpack_sets.specs.Bitmaps.{has_bit}
 -- the bit of a word that was shifted
 shifted_bit : (words : List ℕ) (at i : ℕ) → at ≤ i → i / 64 ≡ at / 64 → has_bit words i ≡ eqb (bit_at (get_or words (at / 64) 0 / 2 ^ (at % 64)) (i - at)) 1
 shifted_bit words at i h same =
-    let place : at % 64 + (i - at) ≡ i % 64 = omega arith in
+    let position : at % 64 + (i - at) ≡ i % 64 = omega arith in
     has_of words (at / 64) i same
-    ∙ ap (λ (b : ℕ). eqb b 1) (ap (bit_at (get_or words (at / 64) 0)) (sym place) ∙ ap (λ (m : ℕ). m % 2) (sym (shr-shr (get_or words (at / 64) 0) (at % 64) (i - at))))
+    ∙ ap (λ (b : ℕ). eqb b 1) (ap (bit_at (get_or words (at / 64) 0)) (sym position) ∙ ap (λ (m : ℕ). m % 2) (sym (shr-shr (get_or words (at / 64) 0) (at % 64) (i - at))))
 
 pub zero_bit : (words : List ℕ) (at i : ℕ) → at ≤ i → i / 64 ≡ at / 64 → bit_at (get_or words (at / 64) 0 / 2 ^ (at % 64)) (i - at) ≡ 0 → has_bit words i ≡ false
 zero_bit words at i h same e = shifted_bit words at i h same ∙ ap (λ (b : ℕ). eqb b 1) e

@@ -4,13 +4,13 @@ use Rattle.std.proofs.Common.{◌≡◌, ℕ, ◌+◌, ◌^◌, ◌<◌, ◌≤�
 use Rattle.std.proofs.lemmas.Bool.{cases_lt, le-leb, lt-leb, ne_eqb}
 use Rattle.std.proofs.lemmas.List.{drop_all, drop_more}
 use Rattle.bitpack_sets.proofs.AnswerLaws.{each, none_left, none_pass, none_right, those_part}
-use Rattle.bitpack_sets.proofs.CombineLaws.{holds_none}
+use Rattle.bitpack_sets.proofs.CombineLaws.{apply_none}
 use Rattle.bitpack_sets.proofs.LoadLaws.{those_are}
 use Rattle.bitpack_sets.proofs.ReadLaws.{has_below}
-use Rattle.bitpack_sets.proofs.SelectionLaws.{kept, kept_right}
+use Rattle.bitpack_sets.proofs.SelectionLaws.{retained, retained_right}
 use Rattle.bitpack_sets.proofs.SliceLaws.{rising_room}
 use Rattle.bitpack_sets.proofs.WalkLaws.{rising_from}
-use Rattle.bitpack_sets.specs.Operations.{answer, holds, those}
+use Rattle.bitpack_sets.specs.Operations.{answer, apply, those}
 use Rattle.bitpack_sets.specs.Reads.{has}
 use Rattle.bitpack_sets.specs.Sets.{IsRising}
 use Rattle.bitpack_sets.specs.declared.operation.Operation.{Operation}
@@ -57,11 +57,11 @@ past_later low high v xs r h = record {
 }
 
 answer_first : (operation : Operation) (v : ℕ) (p q : Bool) (xs xs' ys ys' : List ℕ) → v < 2 ^ 32 → IsPast v xs xs' → IsPast v ys ys' → has v xs ≡ p → has v ys ≡ q
-    → answer operation xs ys ≡ cond (holds operation p q) (v ∷ []) [] ++ answer operation xs' ys'
+    → answer operation xs ys ≡ cond (apply operation p q) (v ∷ []) [] ++ answer operation xs' ys'
 answer_first operation v p q xs xs' ys ys' small a b e f =
-    those_first (2 ^ 32) v (λ x. holds operation (has x xs) (has x ys)) (λ x. holds operation (has x xs') (has x ys')) small
-    (λ x h. holds_none operation (has x xs) (has x ys) (a.below x h) (b.below x h))
-    (λ x h. holds_none operation (has x xs') (has x ys') (a.passed x h) (b.passed x h))
+    those_first (2 ^ 32) v (λ x. apply operation (has x xs) (has x ys)) (λ x. apply operation (has x xs') (has x ys')) small
+    (λ x h. apply_none operation (has x xs) (has x ys) (a.below x h) (b.below x h))
+    (λ x h. apply_none operation (has x xs') (has x ys') (a.passed x h) (b.passed x h))
     (λ x h. each operation (has x xs) (has x xs') (has x ys) (has x ys') (a.above x h) (b.above x h))
     ∙ ap (λ (c : Bool). cond c (v ∷ []) [] ++ answer operation xs' ys') (each operation (has v xs) p (has v ys) q e f)
 
@@ -70,7 +70,7 @@ there v xs = ap (λ (b : Bool). b || has v xs) (eq-eqb v v refl)
 
 -- one step, when the lowest of both is written if it is in the answer
 step : (operation : Operation) (low low' x y : ℕ) (xs ys : List ℕ) → IsRising low (2 ^ 32) (x ∷ xs) → IsRising low' (2 ^ 32) (y ∷ ys)
-    → answer operation (x ∷ xs) (y ∷ ys) ≡ cond (holds operation (leb x y) (leb y x)) (min x y ∷ []) [] ++ answer operation (drop (bool_byte (leb x y)) (x ∷ xs)) (drop (bool_byte (leb y x)) (y ∷ ys))
+    → answer operation (x ∷ xs) (y ∷ ys) ≡ cond (apply operation (leb x y) (leb y x)) (min x y ∷ []) [] ++ answer operation (drop (bool_byte (leb x y)) (x ∷ xs)) (drop (bool_byte (leb y x)) (y ∷ ys))
 step operation low low' x y xs ys r s =
     let room = rising_room low (2 ^ 32) (x ∷ xs) r in
     let (a, r') = r in
@@ -78,7 +78,7 @@ step operation low low' x y xs ys r s =
     let top = rising_room (x + 1) (2 ^ 32) xs r' in
     let top' = rising_room (y + 1) (2 ^ 32) ys s' in
     let goal : Bool → Bool → ℕ → Type 0 = λ p q m. answer operation (x ∷ xs) (y ∷ ys)
-    ≡ cond (holds operation p q) (m ∷ []) [] ++ answer operation (drop (bool_byte p) (x ∷ xs)) (drop (bool_byte q) (y ∷ ys)) in
+    ≡ cond (apply operation p q) (m ∷ []) [] ++ answer operation (drop (bool_byte p) (x ∷ xs)) (drop (bool_byte q) (y ∷ ys)) in
     elim (cases_lt x y) [
       | inl less ↦ (
           let e : leb x y ≡ true = le-leb x y (omega arith) in
@@ -114,7 +114,7 @@ drop_one false i xs h = let e : i + 0 ≡ i = omega arith in sym (drop_more xs i
 -- the same of what is left of two lists
 pub answer_step : (operation : Operation) (i j : ℕ) (xs ys : List ℕ) → IsRising 0 (2 ^ 32) xs → IsRising 0 (2 ^ 32) ys → i < length xs → j < length ys
     → (x y : ℕ) → x ≡ get_or xs i 0 → y ≡ get_or ys j 0
-    → answer operation (drop i xs) (drop j ys) ≡ cond (holds operation (leb x y) (leb y x)) (min x y ∷ []) [] ++ answer operation (drop (i + bool_byte (leb x y)) xs) (drop (j + bool_byte (leb y x)) ys)
+    → answer operation (drop i xs) (drop j ys) ≡ cond (apply operation (leb x y) (leb y x)) (min x y ∷ []) [] ++ answer operation (drop (i + bool_byte (leb x y)) xs) (drop (j + bool_byte (leb y x)) ys)
 answer_step operation i j xs ys r s h k x y e f =
     let first : drop i xs ≡ x ∷ drop (i + 1) xs = drop_more xs i 0 h ∙ ap (λ (n : ℕ). n ∷ drop (i + 1) xs) (sym e) in
     let first' : drop j ys ≡ y ∷ drop (j + 1) ys = drop_more ys j 0 k ∙ ap (λ (n : ℕ). n ∷ drop (j + 1) ys) (sym f) in
@@ -122,7 +122,7 @@ answer_step operation i j xs ys r s h k x y e f =
     ap (λ (n : ℕ). drop (bool_byte (leb x y)) (n ∷ drop (i + 1) xs)) e ∙ drop_one (leb x y) i xs h in
     let rest' : drop (bool_byte (leb y x)) (y ∷ drop (j + 1) ys) ≡ drop (j + bool_byte (leb y x)) ys =
     ap (λ (n : ℕ). drop (bool_byte (leb y x)) (n ∷ drop (j + 1) ys)) f ∙ drop_one (leb y x) j ys k in
-    let front : List ℕ = cond (holds operation (leb x y) (leb y x)) (min x y ∷ []) [] in
+    let front : List ℕ = cond (apply operation (leb x y) (leb y x)) (min x y ∷ []) [] in
     ap (λ (l : List ℕ). answer operation l (drop j ys)) first ∙ ap (answer operation (x ∷ drop (i + 1) xs)) first'
     ∙ step operation 0 0 x y (drop (i + 1) xs) (drop (j + 1) ys) (subst (IsRising 0 (2 ^ 32)) first (rising_from 0 (2 ^ 32) i xs r))
     (subst (IsRising 0 (2 ^ 32)) first' (rising_from 0 (2 ^ 32) j ys s))
@@ -131,13 +131,13 @@ answer_step operation i j xs ys r s h k x y e f =
 
 -- ---- one list alone is left
 
-answer_left : (operation : Operation) (c : Bool) (xs : List ℕ) → IsRising 0 (2 ^ 32) xs → holds operation true false ≡ c → answer operation xs [] ≡ cond c xs []
-answer_left operation true xs r e = those_are (λ x. holds operation (has x xs) false) (2 ^ 32) xs r (λ i h. kept operation (has i xs) e)
-answer_left operation false xs r e = none_pass (2 ^ 32) (λ x. holds operation (has x xs) false) (λ x h. none_left operation (has x xs) e)
+answer_left : (operation : Operation) (c : Bool) (xs : List ℕ) → IsRising 0 (2 ^ 32) xs → apply operation true false ≡ c → answer operation xs [] ≡ cond c xs []
+answer_left operation true xs r e = those_are (λ x. apply operation (has x xs) false) (2 ^ 32) xs r (λ i h. retained operation (has i xs) e)
+answer_left operation false xs r e = none_pass (2 ^ 32) (λ x. apply operation (has x xs) false) (λ x h. none_left operation (has x xs) e)
 
-answer_right : (operation : Operation) (c : Bool) (ys : List ℕ) → IsRising 0 (2 ^ 32) ys → holds operation false true ≡ c → answer operation [] ys ≡ cond c ys []
-answer_right operation true ys r e = those_are (λ x. holds operation false (has x ys)) (2 ^ 32) ys r (λ i h. kept_right operation (has i ys) e)
-answer_right operation false ys r e = none_pass (2 ^ 32) (λ x. holds operation false (has x ys)) (λ x h. none_right operation (has x ys) e)
+answer_right : (operation : Operation) (c : Bool) (ys : List ℕ) → IsRising 0 (2 ^ 32) ys → apply operation false true ≡ c → answer operation [] ys ≡ cond c ys []
+answer_right operation true ys r e = those_are (λ x. apply operation false (has x ys)) (2 ^ 32) ys r (λ i h. retained_right operation (has i ys) e)
+answer_right operation false ys r e = none_pass (2 ^ 32) (λ x. apply operation false (has x ys)) (λ x h. none_right operation (has x ys) e)
 
 cond_none : (c : Bool) (xs : List ℕ) → xs ≡ [] → cond c xs [] ≡ []
 cond_none true xs e = e
@@ -145,7 +145,7 @@ cond_none false xs e = refl
 
 -- the first list has ended
 pub answer_ended : (operation : Operation) (p q : Bool) (i j : ℕ) (xs ys : List ℕ) → IsRising 0 (2 ^ 32) xs → IsRising 0 (2 ^ 32) ys → length xs ≤ i
-    → p ≡ holds operation true false → q ≡ holds operation false true → answer operation (drop i xs) (drop j ys) ≡ cond p (drop i xs) [] ++ cond q (drop j ys) []
+    → p ≡ apply operation true false → q ≡ apply operation false true → answer operation (drop i xs) (drop j ys) ≡ cond p (drop i xs) [] ++ cond q (drop j ys) []
 answer_ended operation p q i j xs ys r s h e f =
     let none : drop i xs ≡ [] = drop_all i xs h in
     ap (λ (l : List ℕ). answer operation l (drop j ys)) none ∙ answer_right operation q (drop j ys) (rising_from 0 (2 ^ 32) j ys s) (sym f)
@@ -153,7 +153,7 @@ answer_ended operation p q i j xs ys r s h e f =
 
 -- the second list has ended
 pub answer_ended' : (operation : Operation) (p q : Bool) (i j : ℕ) (xs ys : List ℕ) → IsRising 0 (2 ^ 32) xs → IsRising 0 (2 ^ 32) ys → length ys ≤ j
-    → p ≡ holds operation true false → q ≡ holds operation false true → answer operation (drop i xs) (drop j ys) ≡ cond p (drop i xs) [] ++ cond q (drop j ys) []
+    → p ≡ apply operation true false → q ≡ apply operation false true → answer operation (drop i xs) (drop j ys) ≡ cond p (drop i xs) [] ++ cond q (drop j ys) []
 answer_ended' operation p q i j xs ys r s h e f =
     let none : drop j ys ≡ [] = drop_all j ys h in
     ap (answer operation (drop i xs)) none ∙ answer_left operation p (drop i xs) (rising_from 0 (2 ^ 32) i xs r) (sym e)

@@ -27,14 +27,14 @@ fall_shift a b (x ∷ y ∷ ys) =
     (ap (λ (n : ℕ). first_fall n (y ∷ ys)) e ∙ fall_shift a (b + 1) (y ∷ ys))
 
 -- numbers that increase, and others after them
-fall_after : (place low high x : ℕ) (xs : List ℕ) (y : ℕ) (ys : List ℕ) → IsRising low high (x ∷ xs)
-    → first_fall place ((x ∷ xs) ++ (y ∷ ys)) ≡ cond (leb y (get_or (x ∷ xs) (length xs) 0)) (Some (place + length (x ∷ xs))) (first_fall (place + length (x ∷ xs)) (y ∷ ys))
+fall_after : (position low high x : ℕ) (xs : List ℕ) (y : ℕ) (ys : List ℕ) → IsRising low high (x ∷ xs)
+    → first_fall position ((x ∷ xs) ++ (y ∷ ys)) ≡ cond (leb y (get_or (x ∷ xs) (length xs) 0)) (Some (position + length (x ∷ xs))) (first_fall (position + length (x ∷ xs)) (y ∷ ys))
 unfolding first_fall
-fall_after place low high x [] y ys r = refl
-fall_after place low high x (z ∷ xs) y ys (a, (b, r)) =
-    let e : place + 1 + length (z ∷ xs) ≡ place + length (x ∷ z ∷ xs) = omega arith in
-    ap (λ (t : Bool). cond t (Some (place + 1)) (first_fall (place + 1) ((z ∷ xs) ++ (y ∷ ys)))) (lt-leb z x (omega arith))
-    ∙ fall_after (place + 1) (x + 1) high z xs y ys (b, r)
+fall_after position low high x [] y ys r = refl
+fall_after position low high x (z ∷ xs) y ys (a, (b, r)) =
+    let e : position + 1 + length (z ∷ xs) ≡ position + length (x ∷ z ∷ xs) = omega arith in
+    ap (λ (t : Bool). cond t (Some (position + 1)) (first_fall (position + 1) ((z ∷ xs) ++ (y ∷ ys)))) (lt-leb z x (omega arith))
+    ∙ fall_after (position + 1) (x + 1) high z xs y ys (b, r)
     ∙ ap (λ (n : ℕ). cond (leb y (get_or (z ∷ xs) (length xs) 0)) (Some n) (first_fall n (y ∷ ys))) e
 
 all_after : (count x : ℕ) (xs : List ℕ) (y : ℕ) (ys : List ℕ) → IsRising 0 (2 ^ 32) (x ∷ xs) → suc (length xs) ≡ count

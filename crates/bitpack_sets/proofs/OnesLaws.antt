@@ -22,13 +22,13 @@ choose true low high xs r = (omega arith, r)
 choose false low high xs r = rising_lower (low + 1) low high xs (omega arith) r
 
 -- the numbers of a range that pass a test increase
-pub kept_rise : (P : ℕ → Bool) (low high n : ℕ) → low + n ≡ high → IsRising low high (filter P (range_with_len low n))
-kept_rise P low high zero e = omega arith
-kept_rise P low high (suc n) e = choose (P low) low high (filter P (range_with_len (low + 1) n)) (kept_rise P (low + 1) high n (omega arith))
+pub filtered_rise : (P : ℕ → Bool) (low high n : ℕ) → low + n ≡ high → IsRising low high (filter P (range_with_len low n))
+filtered_rise P low high zero e = omega arith
+filtered_rise P low high (suc n) e = choose (P low) low high (filter P (range_with_len (low + 1) n)) (filtered_rise P (low + 1) high n (omega arith))
 
 pub ones_rise : (x low n : ℕ) → IsRising low (low + n) (ones_from x low n)
 unfolding ones_from
-ones_rise x low n = kept_rise (λ i. eqb (bit_at x i) 1) low (low + n) n refl
+ones_rise x low n = filtered_rise (λ i. eqb (bit_at x i) 1) low (low + n) n refl
 
 low_bit : (y n : ℕ) → y % 2 ^ (n + 1) ≡ (y / 2 % 2 ^ n) * 2 + y % 2
 low_bit y n = mod-pow-add y n 1

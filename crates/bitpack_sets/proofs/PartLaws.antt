@@ -67,7 +67,7 @@ put_are base low high x top [] pos up down are above =
 put_are base low high x top ((h, []) ∷ ps) pos up down (a, some, r, later) above = absurd (omega arith)
 put_are base low high x top ((h, l ∷ ls) ∷ ps) pos up down (a, some, r, later) (first, rest) =
     put_case (eqb h (x / base)) base low high x h l ls ps pos up (λ e. eqb-true h (x / base) e)
-    (λ e same. elim (eqb_tells h (x / base)) [ inl (holds, is) ↦ cc | inr (fails, is) ↦ is same ]) first r later
+    (λ e same. elim (eqb_tells h (x / base)) [ inl (fact, is) ↦ cc | inr (fails, is) ↦ is same ]) first r later
 
 pub parts_are : (base low high first : ℕ) (xs : List ℕ) → 0 < base → low * base ≤ first → IsRising first (high * base) xs → AreParts base low high (parts base xs)
 unfolding parts

@@ -20,10 +20,10 @@ parts_from ids ends index begin before lt =
     let xs : List ℕ = drop begin ids in
     let up = is.above in
     let first : get_or xs 0 0 ≡ get_or ids begin 0 = (let e : begin + 0 ≡ begin = omega arith in get_drop begin 0 ids ∙ ap (λ k. get_or ids k 0) e) in
-    let place : begin + n ≡ get_or ends index 0 = omega arith in
+    let position : begin + n ≡ get_or ends index 0 = omega arith in
     slice_part n xs before.chunk is.run
     ∙ ap (λ x. (x / 256 % 256, map (λ id. id % 256) (take n xs)) ∷ parts 256 (lows (drop n xs))) first
-    ∙ ap (λ (l : List ℕ). (get_or ids begin 0 / 256 % 256, map (λ id. id % 256) (take n xs)) ∷ parts 256 (lows l)) (drop-drop n begin ids ∙ ap (λ k. drop k ids) place)
+    ∙ ap (λ (l : List ℕ). (get_or ids begin 0 / 256 % 256, map (λ id. id % 256) (take n xs)) ∷ parts 256 (lows l)) (drop-drop n begin ids ∙ ap (λ k. drop k ids) position)
 
 -- ---- high bytes and counts
 
@@ -129,8 +129,8 @@ module _ (ids ends out : List ℕ) (index from begin written : ℕ) (before : Sl
         filled = subst (λ (l : List ℕ). IsFilled out written l (slices (parts 256 (lows ids)))) same next_filled;
       }
 
-  kept_room : (written + (begin - from) + slice_len (get_or ends index 0 - begin) ≤ length out) × (begin ≤ length ids) × (length (map (λ id. id % 256) (take (begin - from) (drop from ids))) ≡ begin - from)
-  kept_room =
+  retained_room : (written + (begin - from) + slice_len (get_or ends index 0 - begin) ≤ length out) × (begin ≤ length ids) × (length (map (λ id. id % 256) (take (begin - from) (drop from ids))) ≡ begin - from)
+  retained_room =
       let xs : List ℕ = drop from ids in
       let up = next_is.above in
       let top = next_is.rest.within in
@@ -150,7 +150,7 @@ module _ (ids ends out : List ℕ) (index from begin written : ℕ) (before : Sl
   pub slice_room : (size : ℕ) → size ≡ slice_len (get_or ends index 0 - begin)
       → (written + (begin - from) + size ≤ length out) × (begin ≤ length ids) × (from ≤ begin) × (get_or ends index 0 ≤ length ids) × (begin < get_or ends index 0)
   slice_room size e =
-      let (a, b, d) = kept_room in
+      let (a, b, d) = retained_room in
       (omega arith, b, before.before, next_is.rest.within, next_is.above)
 
   pub slices_long : (k m size : ℕ) (new own : List ℕ) → k ≡ begin - from → m ≡ size → size ≡ slice_len (get_or ends index 0 - begin)
@@ -158,7 +158,7 @@ module _ (ids ends out : List ℕ) (index from begin written : ℕ) (before : Sl
       → SlicesLeft ids ends (put_mid (written + (begin - from)) m (put_mid written k out new) own) (index + 1) (get_or ends index 0) (get_or ends index 0)
       (written + (begin - from) + size)
   slices_long k m size new own a b d e f =
-      let (room, within, long) = kept_room in
+      let (room, within, long) = retained_room in
       let all : List ℕ = slices (parts 256 (lows ids)) in
       let bytes : List ℕ = map (λ id. id % 256) (take (begin - from) (drop from ids)) in
       let part : List ℕ = slice (map (λ id. id % 256) (take (get_or ends index 0 - begin) (drop begin ids))) in

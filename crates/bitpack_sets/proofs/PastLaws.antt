@@ -12,10 +12,10 @@ slices_size (less ∷ counts) bytes (room, is, later) =
     omega (arith, length-drop (slice_len (less + 1)) bytes)
 
 -- a slice of the first bytes
-pub slice_first : (n place len : ℕ) (xs : List ℕ) → place + len ≤ n → take len (drop place (take n xs)) ≡ take len (drop place xs)
-slice_first n place len xs h =
-    let e : n ≡ place + (n - place) = omega arith in
-    ap (λ (m : ℕ). take len (drop place (take m xs))) e ∙ ap (take len) (drop-take place (n - place) xs) ∙ take-take len (n - place) (drop place xs) (omega arith)
+pub slice_first : (n position len : ℕ) (xs : List ℕ) → position + len ≤ n → take len (drop position (take n xs)) ≡ take len (drop position xs)
+slice_first n position len xs h =
+    let e : n ≡ position + (n - position) = omega arith in
+    ap (λ (m : ℕ). take len (drop position (take m xs))) e ∙ ap (take len) (drop-take position (n - position) xs) ∙ take-take len (n - position) (drop position xs) (omega arith)
 
 -- the slices of a body as they are cut
 pub slices_are : (size : ℕ) (body : List ℕ) → size ≡ slice_len (get_or body 0 0 + 1) → IsBlocks (length (block_numbers body)) body

@@ -7,7 +7,7 @@ use Rattle.std.proofs.lemmas.List.Sums.{fold_more}
 use Rattle.bitpack_sets.proofs.AnswerLaws.{none_pass, those_same}
 use Rattle.bitpack_sets.proofs.FoldLaws.{and_first, and_second, combined_more, first_has, has_in}
 use Rattle.bitpack_sets.proofs.TestLaws.{true_both}
-use Rattle.bitpack_sets.specs.Operations.{answer, answer_all, folded, holds, those}
+use Rattle.bitpack_sets.specs.Operations.{answer, answer_all, apply, folded, those}
 use Rattle.bitpack_sets.specs.Reads.{has}
 use Rattle.bitpack_sets.specs.declared.operation.Operation.{Operation}
 use Rattle.bitpack_sets.specs.declared.operation.Operation.TheVariants.{And, AndNot}
@@ -29,11 +29,11 @@ those_both n p q = filter_both p q (range_with_len 0 n)
 -- ---- ids that two sets have, and each of others so far
 
 abbrev pub common : List ℕ → List ℕ → List (List ℕ) → ℕ → ℕ → Bool
-common xs ys sets i x = fold (holds And) (has x xs && has x ys) (take i (map (has x) sets))
+common xs ys sets i x = fold (apply And) (has x xs && has x ys) (take i (map (has x) sets))
 
 pub common_more : (xs ys : List ℕ) (sets : List (List ℕ)) (i x : ℕ) → i < length sets → common xs ys sets (i + 1) x ≡ (common xs ys sets i x && has x (get_or sets i []))
 common_more xs ys sets i x h =
-    fold_more (holds And) (has x xs && has x ys) (map (has x) sets) i false (omega (arith, length-map sets (has x)))
+    fold_more (apply And) (has x xs && has x ys) (map (has x) sets) i false (omega (arith, length-map sets (has x)))
     ∙ ap (λ (b : Bool). common xs ys sets i x && b) (get_or-map (has x) sets i [] false h)
 
 and_skip : (p q : Bool) → (p ≡ true → q ≡ true) → (p && q) ≡ p
@@ -52,24 +52,24 @@ and_turned : (a b c : Bool) → ((a && b) && c) ≡ (a && (b && c))
 and_turned true b c = refl
 and_turned false b c = refl
 
-fold_and : (a b : Bool) (bs : List Bool) → fold (holds And) (a && b) bs ≡ (a && fold (holds And) b bs)
+fold_and : (a b : Bool) (bs : List Bool) → fold (apply And) (a && b) bs ≡ (a && fold (apply And) b bs)
 fold_and a b [] = refl
-fold_and a b (c ∷ bs) = ap (λ (d : Bool). fold (holds And) d bs) (and_turned a b c) ∙ fold_and a (b && c) bs
+fold_and a b (c ∷ bs) = ap (λ (d : Bool). fold (apply And) d bs) (and_turned a b c) ∙ fold_and a (b && c) bs
 
 and_after : (p q : Bool) → (q ≡ true → p ≡ true) → (p && q) ≡ q
 and_after true q f = refl
 and_after false true f = absurd (false≢true (f refl))
 and_after false false f = refl
 
-all_of : (c : Bool) (bs : List Bool) → 0 < length bs → (folded And bs ≡ true → c ≡ true) → fold (holds And) c bs ≡ folded And bs
+all_of : (c : Bool) (bs : List Bool) → 0 < length bs → (folded And bs ≡ true → c ≡ true) → fold (apply And) c bs ≡ folded And bs
 all_of c [] some f = absurd (omega arith)
-all_of c (b ∷ bs) some f = fold_and c b bs ∙ and_after c (fold (holds And) b bs) f
+all_of c (b ∷ bs) some f = fold_and c b bs ∙ and_after c (fold (apply And) b bs) f
 
 pub common_all : (sets : List (List ℕ)) (a b i x : ℕ) → a < length sets → b < length sets → length sets ≤ i
     → common (get_or sets a []) (get_or sets b []) sets i x ≡ folded And (map (has x) sets)
 common_all sets a b i x h k l =
     let long = length-map sets (has x) in
-    ap (fold (holds And) (has x (get_or sets a []) && has x (get_or sets b []))) (take_all i (map (has x) sets) (omega arith))
+    ap (fold (apply And) (has x (get_or sets a []) && has x (get_or sets b []))) (take_all i (map (has x) sets) (omega arith))
     ∙ all_of (has x (get_or sets a []) && has x (get_or sets b [])) (map (has x) sets) (omega arith)
     (λ t. true_both (has x (get_or sets a [])) (has x (get_or sets b [])) (has_in x sets a t h) (has_in x sets b t k))
 

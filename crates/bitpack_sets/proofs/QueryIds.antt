@@ -19,8 +19,8 @@ use Rattle.bitpack_sets.specs.Operations.{those}
 use Rattle.bitpack_sets.specs.Queries.{IsLoaded, ids_from}
 use Rattle.bitpack_sets.specs.Sets.{IsRising}
 
-kept : (b : Bool) (x : ℕ) (xs : List ℕ) → b ≡ true → cond b (x ∷ xs) xs ≡ x ∷ xs
-kept b x xs e = ap (λ c. cond c (x ∷ xs) xs) e
+retained : (b : Bool) (x : ℕ) (xs : List ℕ) → b ≡ true → cond b (x ∷ xs) xs ≡ x ∷ xs
+retained b x xs e = ap (λ c. cond c (x ∷ xs) xs) e
 
 left_out : (b : Bool) (x : ℕ) (xs : List ℕ) → b ≡ false → cond b (x ∷ xs) xs ≡ xs
 left_out b x xs e = ap (λ c. cond c (x ∷ xs) xs) e
@@ -29,7 +29,7 @@ all_from : (low high bound : ℕ) (xs : List ℕ) → bound ≤ low → IsRising
 all_from low high bound [] h r = refl
 all_from low high bound (x ∷ xs) h r =
     let le : bound ≤ x = omega (arith, r.0) in
-    kept (leb bound x) x (ids_from bound xs) (le-leb bound x le) ∙ ap (λ ys. x ∷ ys) (all_from (x + 1) high bound xs (omega arith) r.1)
+    retained (leb bound x) x (ids_from bound xs) (le-leb bound x le) ∙ ap (λ ys. x ∷ ys) (all_from (x + 1) high bound xs (omega arith) r.1)
 
 none_from : (low high bound : ℕ) (xs : List ℕ) → high ≤ bound → IsRising low high xs → ids_from bound xs ≡ []
 none_from low high bound [] h r = refl
@@ -37,14 +37,14 @@ none_from low high bound (x ∷ xs) h r =
     let lt : x < bound = omega (arith, below_top (x + 1) high xs r.1) in
     left_out (leb bound x) x (ids_from bound xs) (lt-leb bound x lt) ∙ none_from (x + 1) high bound xs h r.1
 
--- the numbers from a place on are those that are not below the number there
-pub from_place : (low high k : ℕ) (xs : List ℕ) → IsRising low high xs → k < length xs → drop k xs ≡ ids_from (get_or xs k 0) xs
-from_place low high k [] r l = absurd (omega arith)
-from_place low high zero (x ∷ xs) r l = sym (kept (leb x x) x (ids_from x xs) (le-leb x x (omega arith)) ∙ ap (λ ys. x ∷ ys) (all_from (x + 1) high x xs (omega arith) r.1))
-from_place low high (suc k) (x ∷ xs) r l =
+-- the numbers from a position on are those that are not below the number there
+pub from_position : (low high k : ℕ) (xs : List ℕ) → IsRising low high xs → k < length xs → drop k xs ≡ ids_from (get_or xs k 0) xs
+from_position low high k [] r l = absurd (omega arith)
+from_position low high zero (x ∷ xs) r l = sym (retained (leb x x) x (ids_from x xs) (le-leb x x (omega arith)) ∙ ap (λ ys. x ∷ ys) (all_from (x + 1) high x xs (omega arith) r.1))
+from_position low high (suc k) (x ∷ xs) r l =
     let inside : k < length xs = omega arith in
     let above : x < get_or xs k 0 = omega (arith, rising_at (x + 1) high k xs r.1 inside) in
-    from_place (x + 1) high k xs r.1 inside ∙ sym (left_out (leb (get_or xs k 0) x) x (ids_from (get_or xs k 0) xs) (lt-leb (get_or xs k 0) x above))
+    from_position (x + 1) high k xs r.1 inside ∙ sym (left_out (leb (get_or xs k 0) x) x (ids_from (get_or xs k 0) xs) (lt-leb (get_or xs k 0) x above))
 
 -- the numbers after those that are below a bound
 pub from_bound : (low high bound k : ℕ) (xs : List ℕ) → IsRising low high xs → All (λ x. x < bound) (take k xs) → (k < length xs → bound ≤ get_or xs k 0) → drop k xs ≡ ids_from bound xs
@@ -52,7 +52,7 @@ from_bound low high bound zero [] r h m = refl
 from_bound low high bound (suc k) [] r h m = refl
 from_bound low high bound zero (x ∷ xs) r h m =
     let le : bound ≤ x = m (omega arith) in
-    sym (kept (leb bound x) x (ids_from bound xs) (le-leb bound x le) ∙ ap (λ ys. x ∷ ys) (all_from (x + 1) high bound xs (omega arith) r.1))
+    sym (retained (leb bound x) x (ids_from bound xs) (le-leb bound x le) ∙ ap (λ ys. x ∷ ys) (all_from (x + 1) high bound xs (omega arith) r.1))
 from_bound low high bound (suc k) (x ∷ xs) r h m =
     let lt : x < bound = All-head (λ y. y < bound) x (take k xs) h in
     from_bound (x + 1) high bound k xs r.1 (All-tail (λ y. y < bound) x (take k xs) h) (λ l. m (omega arith)) ∙ sym (left_out (leb bound x) x (ids_from bound xs) (lt-leb bound x lt))
@@ -65,13 +65,13 @@ filter_twice a b (x ∷ xs) = elim (cases_lt x b) [
   | inl lt ↦ (
       let less : x < max b a = omega arith in
       ap (ids_from a) (left_out (leb b x) x (ids_from b xs) (lt-leb b x lt)) ∙ filter_twice a b xs ∙ sym (left_out (leb (max b a) x) x (ids_from (max b a) xs) (lt-leb (max b a) x less)))
-  | inr ge ↦ ap (ids_from a) (kept (leb b x) x (ids_from b xs) (le-leb b x ge)) ∙ elim (cases_lt x a) [
+  | inr ge ↦ ap (ids_from a) (retained (leb b x) x (ids_from b xs) (le-leb b x ge)) ∙ elim (cases_lt x a) [
     | inl lt ↦ (
         let less : x < max b a = omega arith in
         left_out (leb a x) x (ids_from a (ids_from b xs)) (lt-leb a x lt) ∙ filter_twice a b xs ∙ sym (left_out (leb (max b a) x) x (ids_from (max b a) xs) (lt-leb (max b a) x less)))
     | inr le ↦ (
         let more : max b a ≤ x = omega arith in
-        kept (leb a x) x (ids_from a (ids_from b xs)) (le-leb a x le) ∙ ap (λ ys. x ∷ ys) (filter_twice a b xs) ∙ sym (kept (leb (max b a) x) x (ids_from (max b a) xs) (le-leb (max b a) x more)))
+        retained (leb a x) x (ids_from a (ids_from b xs)) (le-leb a x le) ∙ ap (λ ys. x ∷ ys) (filter_twice a b xs) ∙ sym (retained (leb (max b a) x) x (ids_from (max b a) xs) (le-leb (max b a) x more)))
   ]
 ]
 
@@ -182,7 +182,7 @@ pub some_written : (base least k n next : ℕ) (p : ℕ → Bool) (xs out before
 some_written base least k n next p xs out before is e below above l at =
     let rise : IsRising base (base + 256) xs = subst (IsRising base (base + 256)) (sym is) (numbers_rise base p) in
     subst (λ ys. out ++ ids_from next ys ≡ before ++ ids_from least ys) is
-    (parts_joined out (take n (drop k xs)) before xs k n least next e refl (from_bound base (base + 256) least k xs rise below above) (from_place base (base + 256) (k + n) xs rise l ∙ ap (λ (m : ℕ). ids_from m xs) (sym at)))
+    (parts_joined out (take n (drop k xs)) before xs k n least next e refl (from_bound base (base + 256) least k xs rise below above) (from_position base (base + 256) (k + n) xs rise l ∙ ap (λ (m : ℕ). ids_from m xs) (sym at)))
 
 pub rest_written : (base least k n : ℕ) (p : ℕ → Bool) (xs out before : List ℕ) → xs ≡ map (λ i. base + i) (those 256 p) → out ≡ before ++ take n (drop k xs)
     → All (λ x. x < least) (take k xs) → (k < length xs → least ≤ get_or xs k 0) → length xs ≤ k + n

@@ -7,7 +7,7 @@ use Rattle.std.proofs.lemmas.List.Sums.{fold_more}
 use Rattle.std.proofs.lemmas.Option.{none-some}
 use Rattle.bitpack_sets.proofs.FoldLaws.{none_of_highs, set_ids}
 use Rattle.bitpack_sets.specs.Bitmaps.{has_bit}
-use Rattle.bitpack_sets.specs.Operations.{holds}
+use Rattle.bitpack_sets.specs.Operations.{apply}
 use Rattle.bitpack_sets.specs.Queries.{evaluate, fault_from, in_set, is_found, most_waiting, waiting_after}
 use Rattle.bitpack_sets.specs.Reads.{has}
 use Rattle.bitpack_sets.specs.declared.operation.Operation.{Operation}
@@ -154,46 +154,46 @@ some_waits most sets [] e = absurd (none-some Empty (sym e))
 some_waits most sets (Set k ∷ steps) e = let room = (set_fits most sets 0 0 k steps e).room in omega arith
 some_waits most sets (Combine operation ∷ steps) e = let two = (operands_wait most sets 0 0 operation steps e).two in absurd (omega arith)
 
--- ---- the operands that wait, and what the code keeps for each
+-- ---- the operands that wait, and what the code stores for each
 
--- what is kept at the first places, the last first
+-- what is stored at the first positions, the last first
 abbrev pub tower : {A : Type 0} → A → List A → ℕ → List A
 tower z xs zero = []
 tower z xs (suc depth) = get_or xs depth z ∷ tower z xs depth
 
-tower_kept : {A : Type 0} (z : A) (xs : List A) (i depth : ℕ) (v : A) → depth ≤ i → tower z (set xs i v) depth ≡ tower z xs depth
-tower_kept z xs i zero v h = refl
-tower_kept z xs i (suc depth) v h = ap (λ x. x ∷ tower z (set xs i v) depth) (get_or-set_other xs i depth v z (λ e. omega arith)) ∙ ap (λ ys. get_or xs depth z ∷ ys) (tower_kept z xs i depth v (omega arith))
+tower_unchanged : {A : Type 0} (z : A) (xs : List A) (i depth : ℕ) (v : A) → depth ≤ i → tower z (set xs i v) depth ≡ tower z xs depth
+tower_unchanged z xs i zero v h = refl
+tower_unchanged z xs i (suc depth) v h = ap (λ x. x ∷ tower z (set xs i v) depth) (get_or-set_other xs i depth v z (λ e. omega arith)) ∙ ap (λ ys. get_or xs depth z ∷ ys) (tower_unchanged z xs i depth v (omega arith))
 
 tower_set : {A : Type 0} (z : A) (xs : List A) (depth : ℕ) (v : A) → depth < length xs → tower z (set xs depth v) (suc depth) ≡ v ∷ tower z xs depth
-tower_set z xs depth v h = ap (λ x. x ∷ tower z (set xs depth v) depth) (get_or-set_same xs depth v z h) ∙ ap (λ ys. v ∷ ys) (tower_kept z xs depth depth v (omega arith))
+tower_set z xs depth v h = ap (λ x. x ∷ tower z (set xs depth v) depth) (get_or-set_same xs depth v z h) ∙ ap (λ ys. v ∷ ys) (tower_unchanged z xs depth depth v (omega arith))
 
--- each operand that waits is as what is kept for it
-abbrev pub Held : {A : Type 0} → (A → Bool → Type 0) → A → List A → ℕ → List Bool → Type 0
-Held R z xs depth waiting = AllZip R (tower z xs depth) waiting
+-- each operand that waits is as what is stored for it
+abbrev pub Stored : {A : Type 0} → (A → Bool → Type 0) → A → List A → ℕ → List Bool → Type 0
+Stored R z xs depth waiting = AllZip R (tower z xs depth) waiting
 
-pub held_set : {A : Type 0} (R : A → Bool → Type 0) (z : A) (xs : List A) (depth : ℕ) (waiting : List Bool) (v : A) (b : Bool) → depth < length xs → R v b → Held R z xs depth waiting
-    → Held R z (set xs depth v) (depth + 1) (b ∷ waiting)
-held_set R z xs depth waiting v b h r held =
+pub stored_set : {A : Type 0} (R : A → Bool → Type 0) (z : A) (xs : List A) (depth : ℕ) (waiting : List Bool) (v : A) (b : Bool) → depth < length xs → R v b → Stored R z xs depth waiting
+    → Stored R z (set xs depth v) (depth + 1) (b ∷ waiting)
+stored_set R z xs depth waiting v b h r stored =
     let more : depth + 1 ≡ suc depth = omega arith in
-    subst (λ (d : ℕ). Held R z (set xs depth v) d (b ∷ waiting)) (sym more)
-    (subst (λ ys. AllZip R ys (b ∷ waiting)) (sym (tower_set z xs depth v h)) (r, held))
+    subst (λ (d : ℕ). Stored R z (set xs depth v) d (b ∷ waiting)) (sym more)
+    (subst (λ ys. AllZip R ys (b ∷ waiting)) (sym (tower_set z xs depth v h)) (r, stored))
 
-held_two : {A : Type 0} (R : A → Bool → Type 0) (z : A) (xs : List A) (low : ℕ) (waiting : List Bool) (member : ℕ → Bool) (operation : Operation) (v : A)
-    → ((a b : Bool) → R (get_or xs low z) a → R (get_or xs (suc low) z) b → R v (holds operation a b)) → Held R z xs (suc (suc low)) waiting
+stored_two : {A : Type 0} (R : A → Bool → Type 0) (z : A) (xs : List A) (low : ℕ) (waiting : List Bool) (member : ℕ → Bool) (operation : Operation) (v : A)
+    → ((a b : Bool) → R (get_or xs low z) a → R (get_or xs (suc low) z) b → R v (apply operation a b)) → Stored R z xs (suc (suc low)) waiting
     → AllZip R (v ∷ tower z xs low) (waiting_after member waiting (Combine operation))
-held_two R z xs low [] member operation v join held = absurd held
-held_two R z xs low (b ∷ []) member operation v join held = absurd held.1
-held_two R z xs low (b ∷ a ∷ waiting) member operation v join held = (join a b held.1.0 held.0, held.1.1)
+stored_two R z xs low [] member operation v join stored = absurd stored
+stored_two R z xs low (b ∷ []) member operation v join stored = absurd stored.1
+stored_two R z xs low (b ∷ a ∷ waiting) member operation v join stored = (join a b stored.1.0 stored.0, stored.1.1)
 
-pub held_combined : {A : Type 0} (R : A → Bool → Type 0) (z : A) (xs : List A) (depth low high : ℕ) (waiting : List Bool) (member : ℕ → Bool) (operation : Operation) (v : A) → 2 ≤ depth → low + 2 ≡ depth → low + 1 ≡ high → low < length xs
-    → ((a b : Bool) → R (get_or xs low z) a → R (get_or xs high z) b → R v (holds operation a b)) → Held R z xs depth waiting
-    → Held R z (set xs low v) high (waiting_after member waiting (Combine operation))
-held_combined R z xs depth low high waiting member operation v two d h l join held =
+pub stored_combined : {A : Type 0} (R : A → Bool → Type 0) (z : A) (xs : List A) (depth low high : ℕ) (waiting : List Bool) (member : ℕ → Bool) (operation : Operation) (v : A) → 2 ≤ depth → low + 2 ≡ depth → low + 1 ≡ high → low < length xs
+    → ((a b : Bool) → R (get_or xs low z) a → R (get_or xs high z) b → R v (apply operation a b)) → Stored R z xs depth waiting
+    → Stored R z (set xs low v) high (waiting_after member waiting (Combine operation))
+stored_combined R z xs depth low high waiting member operation v two d h l join stored =
     let is : depth ≡ suc (suc low) = omega arith in
     let above : high ≡ suc low = omega arith in
-    let joined = held_two R z xs low waiting member operation v (λ a b p q. join a b p (subst (λ (n : ℕ). R (get_or xs n z) b) (sym above) q)) (subst (λ (n : ℕ). Held R z xs n waiting) is held) in
-    subst (λ (n : ℕ). Held R z (set xs low v) n (waiting_after member waiting (Combine operation))) (sym above)
+    let joined = stored_two R z xs low waiting member operation v (λ a b p q. join a b p (subst (λ (n : ℕ). R (get_or xs n z) b) (sym above) q)) (subst (λ (n : ℕ). Stored R z xs n waiting) is stored) in
+    subst (λ (n : ℕ). Stored R z (set xs low v) n (waiting_after member waiting (Combine operation))) (sym above)
     (subst (λ ys. AllZip R ys (waiting_after member waiting (Combine operation))) (sym (tower_set z xs low v l)) joined)
 
 -- ---- the steps one by one
@@ -205,21 +205,21 @@ pub in_set_at : (sets : List (List ℕ)) (x i : ℕ) (xs : List ℕ) → i < len
 unfolding in_set
 in_set_at sets x i xs l e = get_or-map (has x) sets i [] false l ∙ ap (has x) e
 
--- the steps are at their end: what is kept for the operand that is left is as the answer
-held_one : {A : Type 0} (R : A → Bool → Type 0) (z : A) (xs : List A) (waiting : List Bool) → Held R z xs (suc zero) waiting → R (get_or xs 0 z) (get_or waiting 0 false)
-held_one R z xs [] held = absurd held
-held_one R z xs (b ∷ waiting) held = held.0
+-- the steps are at their end: what is stored for the operand that is left is as the answer
+stored_one : {A : Type 0} (R : A → Bool → Type 0) (z : A) (xs : List A) (waiting : List Bool) → Stored R z xs (suc zero) waiting → R (get_or xs 0 z) (get_or waiting 0 false)
+stored_one R z xs [] stored = absurd stored
+stored_one R z xs (b ∷ waiting) stored = stored.0
 
-pub held_found : {A B : Type 0} (f : B → Step) (R : A → Bool → Type 0) (z : A) (kept : List A) (most count depth i : ℕ) (sets : List (List ℕ)) (steps : List B) (x : ℕ) → length steps ≤ i → fault_from most count i depth (drop i (map f steps)) ≡ None
-    → Held R z kept depth (evaluate (take i (map f steps)) (in_set sets x)) → R (get_or kept 0 z) (is_found sets (map f steps) x)
+pub stored_found : {A B : Type 0} (f : B → Step) (R : A → Bool → Type 0) (z : A) (retained : List A) (most count depth i : ℕ) (sets : List (List ℕ)) (steps : List B) (x : ℕ) → length steps ≤ i → fault_from most count i depth (drop i (map f steps)) ≡ None
+    → Stored R z retained depth (evaluate (take i (map f steps)) (in_set sets x)) → R (get_or retained 0 z) (is_found sets (map f steps) x)
 unfolding is_found
-held_found f R z kept most count depth i sets steps x l none held =
+stored_found f R z retained most count depth i sets steps x l none stored =
     let one : depth ≡ suc zero = one_left f most count depth i steps l none in
     let all : take i (map f steps) ≡ map f steps = take_all i (map f steps) (omega (arith, length-map steps f)) in
-    held_one R z kept (evaluate (map f steps) (in_set sets x))
-    (subst (λ (ss : List Step). Held R z kept (suc zero) (evaluate ss (in_set sets x))) all (subst (λ (d : ℕ). Held R z kept d (evaluate (take i (map f steps)) (in_set sets x))) one held))
+    stored_one R z retained (evaluate (map f steps) (in_set sets x))
+    (subst (λ (ss : List Step). Stored R z retained (suc zero) (evaluate ss (in_set sets x))) all (subst (λ (d : ℕ). Stored R z retained d (evaluate (take i (map f steps)) (in_set sets x))) one stored))
 
--- ---- what is kept for an operand
+-- ---- what is stored for an operand
 
 -- a key from one on, below which the operand does not have this id
 abbrev pub Before : ℕ → ℕ → ℕ → Bool → Type 0
@@ -230,19 +230,19 @@ abbrev pub Covers : ℕ → List ℕ → Bool → Type 0
 Covers x highs b = has_bit highs (x % 65536 / 256) ≡ false → b ≡ false
 
 -- bits that say whether the operand has this id
-abbrev pub Tells : ℕ → List ℕ → Bool → Type 0
-Tells x words b = has_bit words (x % 65536) ≡ b
+abbrev pub IsBit : ℕ → List ℕ → Bool → Type 0
+IsBit x words b = has_bit words (x % 65536) ≡ b
 
-pub before_joined : (operation : Operation) (from x key k l : ℕ) (a b : Bool) → (key ≡ k) ⊎ (key ≡ l) → ((n : ℕ) (p q : Bool) → n < key → (n < k → p ≡ false) → (n < l → q ≡ false) → holds operation p q ≡ false)
-    → Before from x k a → Before from x l b → Before from x key (holds operation a b)
+pub before_joined : (operation : Operation) (from x key k l : ℕ) (a b : Bool) → (key ≡ k) ⊎ (key ≡ l) → ((n : ℕ) (p q : Bool) → n < key → (n < k → p ≡ false) → (n < l → q ≡ false) → apply operation p q ≡ false)
+    → Before from x k a → Before from x l b → Before from x key (apply operation a b)
 before_joined operation from x key k l a b (inl e) none p q = (omega (arith, p.0), (omega (arith, p.1.0), λ h. none (x / 65536) a b h p.1.1 q.1.1))
 before_joined operation from x key k l a b (inr e) none p q = (omega (arith, q.0), (omega (arith, q.1.0), λ h. none (x / 65536) a b h p.1.1 q.1.1))
 
 pub covers_joined : (operation : Operation) (x : ℕ) (highs ones others : List ℕ) (a b : Bool)
-    → ((h : ℕ) → h < 256 → has_bit highs h ≡ false → holds operation (has_bit ones h) (has_bit others h) ≡ false)
-    → ((h : ℕ) → h < 256 → has_bit highs h ≡ false → holds operation (has_bit ones h) false ≡ false)
-    → ((h : ℕ) → h < 256 → has_bit highs h ≡ false → holds operation false (has_bit others h) ≡ false)
-    → Covers x ones a → Covers x others b → Covers x highs (holds operation a b)
+    → ((h : ℕ) → h < 256 → has_bit highs h ≡ false → apply operation (has_bit ones h) (has_bit others h) ≡ false)
+    → ((h : ℕ) → h < 256 → has_bit highs h ≡ false → apply operation (has_bit ones h) false ≡ false)
+    → ((h : ℕ) → h < 256 → has_bit highs h ≡ false → apply operation false (has_bit others h) ≡ false)
+    → Covers x ones a → Covers x others b → Covers x highs (apply operation a b)
 covers_joined operation x highs ones others a b both left right p q none =
     let h : ℕ = x % 65536 / 256 in
     let small : h < 256 = omega arith in
@@ -251,30 +251,30 @@ covers_joined operation x highs ones others a b both left right p q none =
 pub joined_set : (xs front back : List (List ℕ)) (i : ℕ) (v : List ℕ) → xs ≡ front ++ back → i < length front → set front i v ++ back ≡ set xs i v
 joined_set xs front back i v e l = sym (set-append_left front back i v l) ∙ ap (λ (ys : List (List ℕ)). set ys i v) (sym e)
 
-pub tells_joined : (operation : Operation) (x : ℕ) (xs front back : List (List ℕ)) (low high : ℕ) (words : List ℕ) (a b : Bool) → front ≡ take high xs → back ≡ drop high xs → low < high
-    → has_bit words (x % 65536) ≡ holds operation (has_bit (get_or front low []) (x % 65536)) (has_bit (get_or back 0 []) (x % 65536))
-    → Tells x (get_or xs low []) a → Tells x (get_or xs high []) b → Tells x words (holds operation a b)
-tells_joined operation x xs front back low high words a b f g l own p q =
+pub bit_joined : (operation : Operation) (x : ℕ) (xs front back : List (List ℕ)) (low high : ℕ) (words : List ℕ) (a b : Bool) → front ≡ take high xs → back ≡ drop high xs → low < high
+    → has_bit words (x % 65536) ≡ apply operation (has_bit (get_or front low []) (x % 65536)) (has_bit (get_or back 0 []) (x % 65536))
+    → IsBit x (get_or xs low []) a → IsBit x (get_or xs high []) b → IsBit x words (apply operation a b)
+bit_joined operation x xs front back low high words a b f g l own p q =
     let first : get_or front low [] ≡ get_or xs low [] = ap (λ (ys : List (List ℕ)). get_or ys low []) f ∙ get_or-take high xs low [] l in
     let zeroth : high + 0 ≡ high = omega arith in
     let second : get_or back 0 [] ≡ get_or xs high [] = ap (λ (ys : List (List ℕ)). get_or ys 0 []) g ∙ get_or-drop high xs 0 [] ∙ ap (λ (n : ℕ). get_or xs n []) zeroth in
-    own ∙ ap (λ (ws : List ℕ). holds operation (has_bit ws (x % 65536)) (has_bit (get_or back 0 []) (x % 65536))) first
-    ∙ ap (λ (ws : List ℕ). holds operation (has_bit (get_or xs low []) (x % 65536)) (has_bit ws (x % 65536))) second
-    ∙ ap (λ (c : Bool). holds operation c (has_bit (get_or xs high []) (x % 65536))) p ∙ ap (holds operation a) q
+    own ∙ ap (λ (ws : List ℕ). apply operation (has_bit ws (x % 65536)) (has_bit (get_or back 0 []) (x % 65536))) first
+    ∙ ap (λ (ws : List ℕ). apply operation (has_bit (get_or xs low []) (x % 65536)) (has_bit ws (x % 65536))) second
+    ∙ ap (λ (c : Bool). apply operation c (has_bit (get_or xs high []) (x % 65536))) p ∙ ap (apply operation a) q
 
-pub held_after_set : {A B C : Type 0} (f : B → Step) (h : C → List ℕ) (R : A → Bool → Type 0) (z : A) (kept : List A) (depth i k : ℕ) (sets : List C) (steps : List B) (b : B) (r : Step) (s : C) (xs : List ℕ) (x : ℕ) (v : A)
-    → i < length steps → b ≡ get_or steps i b → r ≡ f b → r ≡ Set k → k < length sets → s ≡ get_or sets k s → xs ≡ h s → depth < length kept → R v (has x xs)
-    → Held R z kept depth (evaluate (take i (map f steps)) (in_set (map h sets) x)) → Held R z (set kept depth v) (depth + 1) (evaluate (take (i + 1) (map f steps)) (in_set (map h sets) x))
-held_after_set f h R z kept depth i k sets steps b r s xs x v l at is e within set_is own room holds held =
+pub stored_after_set : {A B C : Type 0} (f : B → Step) (h : C → List ℕ) (R : A → Bool → Type 0) (z : A) (retained : List A) (depth i k : ℕ) (sets : List C) (steps : List B) (b : B) (r : Step) (s : C) (xs : List ℕ) (x : ℕ) (v : A)
+    → i < length steps → b ≡ get_or steps i b → r ≡ f b → r ≡ Set k → k < length sets → s ≡ get_or sets k s → xs ≡ h s → depth < length retained → R v (has x xs)
+    → Stored R z retained depth (evaluate (take i (map f steps)) (in_set (map h sets) x)) → Stored R z (set retained depth v) (depth + 1) (evaluate (take (i + 1) (map f steps)) (in_set (map h sets) x))
+stored_after_set f h R z retained depth i k sets steps b r s xs x v l at is e within set_is own room apply stored =
     let member = in_set (map h sets) x in
     let in_it : member k ≡ has x xs = in_set_at (map h sets) x k xs (omega (arith, length-map sets h)) (set_ids h sets k s within set_is ∙ sym own) in
-    subst (λ bs. Held R z (set kept depth v) (depth + 1) bs) (sym (one_more (map f steps) i member (Set k) (Set k) (step_within f steps i l) (step_is f steps i b r (Set k) l at is e)))
-    (held_set R z kept depth (evaluate (take i (map f steps)) member) v (member k) room (subst (R v) (sym in_it) holds) held)
+    subst (λ bs. Stored R z (set retained depth v) (depth + 1) bs) (sym (one_more (map f steps) i member (Set k) (Set k) (step_within f steps i l) (step_is f steps i b r (Set k) l at is e)))
+    (stored_set R z retained depth (evaluate (take i (map f steps)) member) v (member k) room (subst (R v) (sym in_it) apply) stored)
 
-pub held_after_combine : {A B : Type 0} (f : B → Step) (R : A → Bool → Type 0) (z : A) (kept : List A) (depth low high i : ℕ) (sets : List (List ℕ)) (steps : List B) (b : B) (r : Step) (operation : Operation) (x : ℕ) (v : A)
-    → i < length steps → b ≡ get_or steps i b → r ≡ f b → r ≡ Combine operation → 2 ≤ depth → low + 2 ≡ depth → low + 1 ≡ high → low < length kept → ((a b : Bool) → R (get_or kept low z) a → R (get_or kept high z) b → R v (holds operation a b))
-    → Held R z kept depth (evaluate (take i (map f steps)) (in_set sets x)) → Held R z (set kept low v) high (evaluate (take (i + 1) (map f steps)) (in_set sets x))
-held_after_combine f R z kept depth low high i sets steps b r operation x v l at is e two under over room join held =
+pub stored_after_combine : {A B : Type 0} (f : B → Step) (R : A → Bool → Type 0) (z : A) (retained : List A) (depth low high i : ℕ) (sets : List (List ℕ)) (steps : List B) (b : B) (r : Step) (operation : Operation) (x : ℕ) (v : A)
+    → i < length steps → b ≡ get_or steps i b → r ≡ f b → r ≡ Combine operation → 2 ≤ depth → low + 2 ≡ depth → low + 1 ≡ high → low < length retained → ((a b : Bool) → R (get_or retained low z) a → R (get_or retained high z) b → R v (apply operation a b))
+    → Stored R z retained depth (evaluate (take i (map f steps)) (in_set sets x)) → Stored R z (set retained low v) high (evaluate (take (i + 1) (map f steps)) (in_set sets x))
+stored_after_combine f R z retained depth low high i sets steps b r operation x v l at is e two under over room join stored =
     let member = in_set sets x in
-    subst (λ bs. Held R z (set kept low v) high bs) (sym (one_more (map f steps) i member (Combine operation) (Combine operation) (step_within f steps i l) (step_is f steps i b r (Combine operation) l at is e)))
-    (held_combined R z kept depth low high (evaluate (take i (map f steps)) member) member operation v two under over room join held)
+    subst (λ bs. Stored R z (set retained low v) high bs) (sym (one_more (map f steps) i member (Combine operation) (Combine operation) (step_within f steps i l) (step_is f steps i b r (Combine operation) l at is e)))
+    (stored_combined R z retained depth low high (evaluate (take i (map f steps)) member) member operation v two under over room join stored)

@@ -15,7 +15,7 @@ use Rattle.bitpack_sets.proofs.JoinLaws.{numbers_built}
 use Rattle.bitpack_sets.proofs.JoinReads.{none}
 use Rattle.bitpack_sets.proofs.LongLaws.{counts, total}
 use Rattle.bitpack_sets.proofs.PartLaws.{join}
-use Rattle.bitpack_sets.proofs.PlaceLaws.{quads_drop}
+use Rattle.bitpack_sets.proofs.PositionLaws.{quads_drop}
 use Rattle.bitpack_sets.proofs.RaisedLaws.{map_raised}
 use Rattle.bitpack_sets.proofs.ReadLaws.{slice_at}
 use Rattle.bitpack_sets.proofs.SelectLaws.{build_first, build_long, join_drop, many_chunks, numbers_more, slice_within}
@@ -142,22 +142,22 @@ slice_range base i from n position hs cs bytes size are lt few e =
 -- ---- where a loop is
 
 -- a position among the numbers of slices
-pub record AtSlice (counts : List ℕ) (index left place position : ℕ) : Type 0 where
+pub record AtSlice (counts : List ℕ) (index left offset position : ℕ) : Type 0 where
   pub within : index < length counts
   pub own : left ≤ get_or counts index 0
-  pub place_is : place ≡ slices_len (take index counts)
+  pub offset_is : offset ≡ slices_len (take index counts)
   pub passed : numbers_in (take index counts) + left ≡ position
 
-pub slice_passed : (counts : List ℕ) (index left place position wanted size : ℕ) → AtSlice counts index left place position → size ≡ slice_len (get_or counts index 0 + 1)
-    → wanted ≡ get_or counts index 0 + 1 - left → position + wanted < numbers_in counts → AtSlice counts (index + 1) 0 (place + size) (position + wanted)
-slice_passed counts index left place position wanted size at s w less =
+pub slice_passed : (counts : List ℕ) (index left offset position wanted size : ℕ) → AtSlice counts index left offset position → size ≡ slice_len (get_or counts index 0 + 1)
+    → wanted ≡ get_or counts index 0 + 1 - left → position + wanted < numbers_in counts → AtSlice counts (index + 1) 0 (offset + size) (position + wanted)
+slice_passed counts index left offset position wanted size at s w less =
     let own = at.own in
-    let place_is = at.place_is in
+    let offset_is = at.offset_is in
     let passed = at.passed in
     let lens = lens_more counts index at.within in
     let more = numbers_more counts index at.within in
     let next : numbers_in (take (index + 1) counts) + 0 ≡ position + wanted = omega arith in
-    record { within = slice_within counts (index + 1) 0 (position + wanted) next less; own = omega arith; place_is = omega arith; passed = next }
+    record { within = slice_within counts (index + 1) 0 (position + wanted) next less; own = omega arith; offset_is = omega arith; passed = next }
 
 -- a position among the ids of chunks
 pub record AtChunk (chunks : ℕ) (rest : List ℕ) (chunk left position : ℕ) : Type 0 where

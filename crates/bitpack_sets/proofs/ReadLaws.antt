@@ -68,21 +68,21 @@ has_first P x low n h =
     ∙ ap (λ (b : Bool). P low || b) (has_out P x (low + 1) n (omega arith))
     ∙ or-false (P low) ∙ ap P h
 
--- a number of a range is kept if it passes the test
-pub has_kept : (P : ℕ → Bool) (x low n : ℕ) → low ≤ x → x < low + n → has x (filter P (range_with_len low n)) ≡ P x
-has_kept P x low zero h l = absurd (omega arith)
-has_kept P x low (suc n) h l = elim (cases_lt low x) [
+-- a number of a range is left if it passes the test
+pub has_filtered : (P : ℕ → Bool) (x low n : ℕ) → low ≤ x → x < low + n → has x (filter P (range_with_len low n)) ≡ P x
+has_filtered P x low zero h l = absurd (omega arith)
+has_filtered P x low (suc n) h l = elim (cases_lt low x) [
   | inl less ↦
       has_step (P low) x low (filter P (range_with_len (low + 1) n))
       ∙ ap (λ (b : Bool). (P low && b) || has x (filter P (range_with_len (low + 1) n))) (ne_eqb low x (λ e. omega arith))
       ∙ ap (λ (b : Bool). b || has x (filter P (range_with_len (low + 1) n))) (and-false (P low))
-      ∙ has_kept P x (low + 1) n (omega arith) (omega arith)
+      ∙ has_filtered P x (low + 1) n (omega arith) (omega arith)
   | inr more ↦ has_first P x low n (omega arith)
 ]
 
 pub has_ones : (x n low k : ℕ) → low ≤ x → x < low + k → has x (ones_from n low k) ≡ eqb (bit_at n x) 1
 unfolding ones_from
-has_ones x n low k h l = has_kept (λ i. eqb (bit_at n i) 1) x low k h l
+has_ones x n low k h l = has_filtered (λ i. eqb (bit_at n i) 1) x low k h l
 
 -- the bit of a number stands in its byte
 pub bit_of_bytes : (bytes : List ℕ) (q r : ℕ) → EachByte bytes → q < length bytes → r < 8 → bit_at (number_of bytes) (8 * q + r) ≡ bit_at (get_or bytes q 0) r
@@ -134,19 +134,19 @@ rank_out P x low (suc n) h =
     let rest = rank_out P x (low + 1) n (omega arith) in
     omega arith
 
--- as many are below a number as are kept before it
-pub rank_kept : (P : ℕ → Bool) (x low n m : ℕ) → low + m ≡ x → m ≤ n → rank x (filter P (range_with_len low n)) ≡ length (filter P (range_with_len low m))
-rank_kept P x low n zero e h = rank_out P x low n (omega arith)
-rank_kept P x low zero (suc m) e h = absurd (omega arith)
-rank_kept P x low (suc n) (suc m) e h =
+-- as many are below a number as are left before it
+pub rank_filtered : (P : ℕ → Bool) (x low n m : ℕ) → low + m ≡ x → m ≤ n → rank x (filter P (range_with_len low n)) ≡ length (filter P (range_with_len low m))
+rank_filtered P x low n zero e h = rank_out P x low n (omega arith)
+rank_filtered P x low zero (suc m) e h = absurd (omega arith)
+rank_filtered P x low (suc n) (suc m) e h =
     rank_step (P low) x low (filter P (range_with_len (low + 1) n))
     ∙ ap (λ (b : Bool). cond (P low) (cond b 1 0) 0 + rank x (filter P (range_with_len (low + 1) n))) (lt-ltb low x (omega arith))
-    ∙ ap (λ (k : ℕ). cond (P low) 1 0 + k) (rank_kept P x (low + 1) n m (omega arith) (omega arith))
+    ∙ ap (λ (k : ℕ). cond (P low) 1 0 + k) (rank_filtered P x (low + 1) n m (omega arith) (omega arith))
     ∙ sym (length_step (P low) low (filter P (range_with_len (low + 1) m)))
 
 pub rank_ones : (x n low k : ℕ) → low ≤ x → x ≤ low + k → rank x (ones_from n low k) ≡ length (ones_from n low (x - low))
 unfolding ones_from
-rank_ones x n low k h l = rank_kept (λ i. eqb (bit_at n i) 1) x low k (x - low) (omega arith) (omega arith)
+rank_ones x n low k h l = rank_filtered (λ i. eqb (bit_at n i) 1) x low k (x - low) (omega arith) (omega arith)
 
 pub count_low : (bytes : List ℕ) (q r : ℕ) → EachByte bytes → q < length bytes → r < 8
     → count_ones (number_of bytes % 2 ^ (8 * q + r)) ≡ bits_in (take q bytes) + count_ones (get_or bytes q 0 % 2 ^ r)
@@ -285,7 +285,7 @@ rank_below x low high (y ∷ xs) (a, r) h =
     let rest = rank_below x (y + 1) high xs r (omega arith) in
     omega arith
 
--- a number that is among some has its place among them
+-- a number that is among some has its position among them
 pub rank_less : (x : ℕ) (xs : List ℕ) → has x xs ≡ true → rank x xs < length xs
 rank_less x [] h = absurd (false≢true h)
 rank_less x (y ∷ xs) h = elim (cases_lt y x) [
@@ -313,7 +313,7 @@ not_in x (high ∷ highs) (less ∷ counts) bytes (room, is, later) h =
     ∙ ap (λ (b : Bool). b || has x (numbers_of highs counts bytes')) (has_other x high 0 low is.rising (λ e. true≢false (sym (eq-eqb high (x / 256) e) ∙ one)))
     ∙ not_in x highs counts bytes' later rest
 
--- the slice of a place
+-- the slice of a position
 abbrev pub slice_at : ℕ → List ℕ → List ℕ → List ℕ
 slice_at i counts bytes = slice_numbers (get_or counts i 0 + 1) (take (slice_len (get_or counts i 0 + 1)) (drop (slices_len (take i counts)) bytes))
 
@@ -355,12 +355,12 @@ in_numbers x low (suc i) (high ∷ highs) (less ∷ counts) bytes e size (a, r) 
 ]
 
 -- it is within the bytes
-pub place_fits : (i : ℕ) (counts bytes : List ℕ) → AreSlices counts bytes → i < length counts → slices_len (take i counts) + slice_len (get_or counts i 0 + 1) ≤ length bytes
+pub offset_fits : (i : ℕ) (counts bytes : List ℕ) → AreSlices counts bytes → i < length counts → slices_len (take i counts) + slice_len (get_or counts i 0 + 1) ≤ length bytes
 unfolding slices_len
-place_fits i [] bytes are h = absurd (omega arith)
-place_fits zero (less ∷ counts) bytes (room, is, later) h = omega arith
-place_fits (suc i) (less ∷ counts) bytes (room, is, later) h =
-    let ih = place_fits i counts (drop (slice_len (less + 1)) bytes) later (omega arith) in
+offset_fits i [] bytes are h = absurd (omega arith)
+offset_fits zero (less ∷ counts) bytes (room, is, later) h = omega arith
+offset_fits (suc i) (less ∷ counts) bytes (room, is, later) h =
+    let ih = offset_fits i counts (drop (slice_len (less + 1)) bytes) later (omega arith) in
     omega (arith, length-drop (slice_len (less + 1)) bytes)
 
 pub full_numbers : (count : ℕ) (bytes : List ℕ) → 256 ≤ count → slice_numbers count bytes ≡ range_with_len 0 256

@@ -16,26 +16,26 @@ RisesTo ids n = (k : ℕ) → k + 1 < n → get_or ids k 0 < get_or ids (k + 1) 
 later_rises : (x : ℕ) (ids : List ℕ) (n : ℕ) → RisesTo (x ∷ ids) (suc n) → RisesTo ids n
 later_rises x ids n rises k lt = let e : suc k + 1 ≡ suc (k + 1) = omega arith in subst (λ m. get_or ids k 0 < get_or (x ∷ ids) m 0) e (rises (suc k) (omega arith))
 
-pub fall_none : (place : ℕ) (ids : List ℕ) → RisesTo ids (length ids) → first_fall place ids ≡ None
+pub fall_none : (position : ℕ) (ids : List ℕ) → RisesTo ids (length ids) → first_fall position ids ≡ None
 unfolding first_fall
-fall_none place [] rises = refl
-fall_none place (x ∷ []) rises = refl
-fall_none place (x ∷ y ∷ ids) rises =
+fall_none position [] rises = refl
+fall_none position (x ∷ []) rises = refl
+fall_none position (x ∷ y ∷ ids) rises =
     let less : x < y = rises 0 (omega arith) in
-    ap (λ (t : Bool). cond t (Some (place + 1)) (first_fall (place + 1) (y ∷ ids))) (lt-leb y x less)
-    ∙ fall_none (place + 1) (y ∷ ids) (later_rises x (y ∷ ids) (length (y ∷ ids)) rises)
+    ap (λ (t : Bool). cond t (Some (position + 1)) (first_fall (position + 1) (y ∷ ids))) (lt-leb y x less)
+    ∙ fall_none (position + 1) (y ∷ ids) (later_rises x (y ∷ ids) (length (y ∷ ids)) rises)
 
-pub fall_found : (place : ℕ) (ids : List ℕ) (n : ℕ) → RisesTo ids (suc n) → suc n < length ids → get_or ids (suc n) 0 ≤ get_or ids n 0
-    → first_fall place ids ≡ Some (place + suc n)
+pub fall_found : (position : ℕ) (ids : List ℕ) (n : ℕ) → RisesTo ids (suc n) → suc n < length ids → get_or ids (suc n) 0 ≤ get_or ids n 0
+    → first_fall position ids ≡ Some (position + suc n)
 unfolding first_fall
-fall_found place [] n rises h falls = absurd (omega arith)
-fall_found place (x ∷ []) n rises h falls = absurd (omega arith)
-fall_found place (x ∷ y ∷ ids) zero rises h falls = ap (λ (t : Bool). cond t (Some (place + 1)) (first_fall (place + 1) (y ∷ ids))) (le-leb y x falls)
-fall_found place (x ∷ y ∷ ids) (suc n) rises h falls =
+fall_found position [] n rises h falls = absurd (omega arith)
+fall_found position (x ∷ []) n rises h falls = absurd (omega arith)
+fall_found position (x ∷ y ∷ ids) zero rises h falls = ap (λ (t : Bool). cond t (Some (position + 1)) (first_fall (position + 1) (y ∷ ids))) (le-leb y x falls)
+fall_found position (x ∷ y ∷ ids) (suc n) rises h falls =
     let less : x < y = rises 0 (omega arith) in
-    let e : place + 1 + suc n ≡ place + suc (suc n) = omega arith in
-    ap (λ (t : Bool). cond t (Some (place + 1)) (first_fall (place + 1) (y ∷ ids))) (lt-leb y x less)
-    ∙ fall_found (place + 1) (y ∷ ids) n (later_rises x (y ∷ ids) (suc n) rises) (omega arith) falls ∙ ap Some e
+    let e : position + 1 + suc n ≡ position + suc (suc n) = omega arith in
+    ap (λ (t : Bool). cond t (Some (position + 1)) (first_fall (position + 1) (y ∷ ids))) (lt-leb y x less)
+    ∙ fall_found (position + 1) (y ∷ ids) n (later_rises x (y ∷ ids) (suc n) rises) (omega arith) falls ∙ ap Some e
 
 pub found_at : (ids : List ℕ) (i : ℕ) → 1 ≤ i → RisesTo ids i → i < length ids → get_or ids i 0 ≤ get_or ids (i - 1) 0 → Some i ≡ first_fall 0 ids
 found_at ids zero some rises h falls = absurd (omega arith)
@@ -55,7 +55,7 @@ each_below (x ∷ ids) h = (h 0, each_below ids (λ k. h (suc k)))
 
 some_refused : (fall : Option ℕ) → option_map NotSorted fall ≡ None → fall ≡ None
 some_refused None e = refl
-some_refused (Some place) e = cc
+some_refused (Some position) e = cc
 
 -- ids that are not refused are a set
 pub set_is : (ids : List ℕ) → ((k : ℕ) → get_or ids k 0 < 2 ^ 32) → refusal ids ≡ None → IsSet ids

@@ -4,13 +4,13 @@ use Rattle.std.specs.List.{concat}
 use Rattle.std.proofs.lemmas.Bool.{cases_lt}
 use Rattle.bitpack_groups.proofs.ForCallers.{longest_groups, longest_number, number-small, number_in-large, number_in-small}
 use Rattle.bitpack_sets.proofs.EncodeLaws.{array_is, chunks_is, few_is}
-use Rattle.bitpack_sets.proofs.FewLaws.{codes_len, codes_of, codes_run, few_size, groups_text, no_ids}
+use Rattle.bitpack_sets.proofs.FewLaws.{codes_len, codes_of, codes_run, few_size, groups_encoding, no_ids}
 use Rattle.bitpack_sets.proofs.GapLaws.{below_words, gaps_below}
 use Rattle.bitpack_sets.proofs.LongFilled.{array_size, chunks_length, few_times}
 use Rattle.bitpack_sets.proofs.LongLaws.{bodies_len, concat_len, count_room, join_len}
 use Rattle.bitpack_sets.proofs.PartLaws.{AreParts, join_parts, parts_are}
-use Rattle.bitpack_sets.specs.Laws.{LongestText}
-use Rattle.bitpack_sets.specs.Sets.{IsSet, parts, short, text}
+use Rattle.bitpack_sets.specs.Laws.{LongestEncoding}
+use Rattle.bitpack_sets.specs.Sets.{IsSet, encoding, parts, short}
 use Rattle.bitpack_sets.specs.Varints.{byte_count, groups_of, number}
 use Rattle.bitpack_sets.specs.Written.{bodies}
 
@@ -42,7 +42,7 @@ few_room (x ∷ xs) set some =
     let size = few_size ids some in
     let first = longest_number x in
     let long = codes_len ids some in
-    let groups = longest_groups (groups_of (length (codes_of ids))) (codes_of ids) (groups_text ids) (below_words (codes_of ids) (gaps_below x xs rises)) (codes_run ids set some) in
+    let groups = longest_groups (groups_of (length (codes_of ids))) (codes_of ids) (groups_encoding ids) (below_words (codes_of ids) (gaps_below x xs rises)) (codes_run ids set some) in
     omega arith
 
 -- chunks and bodies
@@ -75,11 +75,11 @@ chunks_room ids chunks set is apart =
     let g = few_times (2 + byte_count (length (concat (bodies ids))) + byte_count (length ids)) 10 chunks (omega arith) in
     omega arith
 
-none_room : (ids : List ℕ) → length ids ≤ 0 → length (text ids) ≡ 1
+none_room : (ids : List ℕ) → length ids ≤ 0 → length (encoding ids) ≡ 1
 none_room ids none = let e : length ids ≡ 0 = omega arith in ap length (few_is ids (omega arith) ∙ no_ids ids e)
 
-pub longest_text : LongestText
-longest_text ids set = elim (cases_lt 127 (length ids)) [
+pub longest_encoding : LongestEncoding
+longest_encoding ids set = elim (cases_lt 127 (length ids)) [
   | inl many ↦ elim (cases_lt (length ids) (4 * length (parts 65536 ids))) [
     | inl apart ↦
         let size = ap length (array_is ids (length (parts 65536 ids)) many refl apart) ∙ array_size ids in

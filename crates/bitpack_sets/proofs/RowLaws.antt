@@ -1,4 +1,4 @@
--- A table of the places of the bits of each byte, tested by computing.
+-- A table of the positions of the bits of each byte, tested by computing.
 use Rattle.std.proofs.Common.{◌≡◌, ℕ, zero, suc, ◌+◌, ◌*◌, ◌/◌, ◌%◌, ◌^◌, ◌<◌, ◌≤◌, ◌++◌, Bool, true, false, ◌&&◌, List, [], ◌∷◌, length, length-append, get_or, map, replicate, take, refl, sym, ◌∙◌, ap, arith, eqb, ltb, min, bit_and, subst, w8}
 use Rattle.std.specs.Int.{bit_at}
 use Rattle.std.specs.List.{filter, range_with_len}
@@ -11,7 +11,7 @@ use Rattle.std.proofs.lemmas.Nat.{shr-shr}
 use Rattle.std.proofs.lemmas.Simd.{Each1-from_get_or, Each1-get_or, SwzOk, SwzOk-from_below, get_or-chunk, get_or-swz_l_below, length-swz_l, map-map, swz_l, take_more_put_chunk, zip2_splat}
 use Rattle.bitpack_sets.proofs.BitmapLaws.{those_raised, those_split}
 use Rattle.bitpack_sets.proofs.DecodeLaws.{rising_top}
-use Rattle.bitpack_sets.proofs.LoadLaws.{kept_same}
+use Rattle.bitpack_sets.proofs.LoadLaws.{filtered_same}
 use Rattle.bitpack_sets.proofs.OnesLaws.{ones_rise}
 use Rattle.bitpack_sets.proofs.RaisedLaws.{map_raised}
 use Rattle.bitpack_sets.specs.Sets.{IsRising}
@@ -71,13 +71,13 @@ pub rows_right : (rows : List (List ℕ)) → length rows ≡ 256 → are_rows i
 rows_right rows count tested = record {
   count = count;
   small = λ byte k none lt within. below_at 8 (get_or rows byte none) (and_parts _ _ (first_row is_row rows byte none count lt tested)).1 k within;
-  places = λ byte none lt. begins-take (ones_from byte 0 8) (get_or rows byte none) (and_parts _ _ (first_row is_row rows byte none count lt tested)).0;
+  positions = λ byte none lt. begins-take (ones_from byte 0 8) (get_or rows byte none) (and_parts _ _ (first_row is_row rows byte none count lt tested)).0;
 }
 
 -- ---- a row of eight, added to a number and written
 
 module _ (values row lanes ones : List ℕ) (next base top : ℕ) (same : lanes ≡ replicate 8 base) (long : length row ≡ 8) (room : next + 8 ≤ length values) (fits : base + top ≤ 2 ^ 32)
-    (few : length ones ≤ 8) (small : (k : ℕ) → k < 8 → get_or row k 0 < top) (places : take (length ones) row ≡ ones) where
+    (few : length ones ≤ 8) (small : (k : ℕ) → k < 8 → get_or row k 0 < top) (positions : take (length ones) row ≡ ones) where
   abbrev pub sums : List ℕ
   sums = zip2 (λ a b. (a + b) % 2 ^ 32) (map (λ x. x) row) lanes
 
@@ -93,7 +93,7 @@ module _ (values row lanes ones : List ℕ) (next base top : ℕ) (same : lanes 
   front : take (length ones) sums ≡ map (λ i. base + i) ones
   front = ext_get_or 0 _ _ (count ∙ sym (length-map ones (λ i. base + i))) (λ k lt.
       let within : k < length ones = omega (arith, lt, count) in
-      let one : get_or row k 0 ≡ get_or ones k 0 = sym (get_or-take (length ones) row k 0 within) ∙ ap (λ (l : List ℕ). get_or l k 0) places in
+      let one : get_or row k 0 ≡ get_or ones k 0 = sym (get_or-take (length ones) row k 0 within) ∙ ap (λ (l : List ℕ). get_or l k 0) positions in
       let less : get_or row k 0 < top = small k (omega (arith, within, few)) in
       let sum : (get_or row k 0 + base) % 2 ^ 32 ≡ base + get_or row k 0 = omega (arith, less, fits) in
       get_or-take (length ones) sums k 0 within ∙ ap (λ (l : List ℕ). get_or l k 0) sums_are
@@ -118,14 +118,14 @@ module _ (values row lanes ones : List ℕ) (next base top : ℕ) (same : lanes 
 
 -- ---- the bits of a word, byte by byte
 
-kept : (b : ℕ) → b < 2 → min b 1 ≡ b
-kept zero h = refl
-kept (suc zero) h = refl
-kept (suc (suc b)) h = absurd (omega arith)
+retained : (b : ℕ) → b < 2 → min b 1 ≡ b
+retained zero h = refl
+retained (suc zero) h = refl
+retained (suc (suc b)) h = absurd (omega arith)
 
 byte_bit : (word k i : ℕ) → i < 8 → bit_at word (k + i) ≡ bit_at (bit_and (word / 2 ^ k) 255) i
 byte_bit word k i lt =
-    ap (λ (n : ℕ). n % 2) (sym (shr-shr word k i)) ∙ sym (kept (bit_at (word / 2 ^ k) i) (bit_at-lt (word / 2 ^ k) i))
+    ap (λ (n : ℕ). n % 2) (sym (shr-shr word k i)) ∙ sym (retained (bit_at (word / 2 ^ k) i) (bit_at-lt (word / 2 ^ k) i))
     ∙ ap (min (bit_at (word / 2 ^ k) i)) (sym (bit_at_ones 8 i lt)) ∙ sym (bit_at_and (word / 2 ^ k) 255 i)
 
 byte_more : (word k : ℕ) → ones_from word 0 (k + 8) ≡ ones_from word 0 k ++ map (λ j. k + j) (ones_from (bit_and (word / 2 ^ k) 255) 0 8)
@@ -133,11 +133,11 @@ unfolding ones_from
 byte_more word k =
     let P : ℕ → Bool = λ i. eqb (bit_at word i) 1 in
     let Q : ℕ → Bool = λ i. eqb (bit_at (bit_and (word / 2 ^ k) 255) i) 1 in
-    let place : 0 + k ≡ k + 0 = omega arith in
+    let position : 0 + k ≡ k + 0 = omega arith in
     those_split P 0 k 8
     ∙ ap (λ (l : List ℕ). filter P (range_with_len 0 k) ++ l)
-    (ap (λ (a : ℕ). filter P (range_with_len a 8)) place ∙ those_raised P k 0 8
-    ∙ ap (map (λ j. k + j)) (kept_same (λ i. P (k + i)) Q 0 8 (λ i a b. ap (λ (n : ℕ). eqb n 1) (byte_bit word k i (omega arith)))))
+    (ap (λ (a : ℕ). filter P (range_with_len a 8)) position ∙ those_raised P k 0 8
+    ∙ ap (map (λ j. k + j)) (filtered_same (λ i. P (k + i)) Q 0 8 (λ i a b. ap (λ (n : ℕ). eqb n 1) (byte_bit word k i (omega arith)))))
 
 pub bytes_more : (base i word : ℕ)
     → map (λ j. base + j) (ones_from word 0 (8 * (i + 1)))
@@ -171,7 +171,7 @@ lanes_first base i lanes same fits lt = let e : (base + 8 * i) % 2 ^ 32 ≡ base
 -- ---- eight bytes at the numbers of a row
 
 module _ (bytes row ones : List ℕ) (size : length bytes ≡ 8) (fit : Each1 (Fits w8) bytes) (long : length row ≡ 8) (few : length ones ≤ 8)
-    (small : (k : ℕ) → k < 8 → get_or row k 0 < 8) (places : take (length ones) row ≡ ones) where
+    (small : (k : ℕ) → k < 8 → get_or row k 0 < 8) (positions : take (length ones) row ≡ ones) where
   abbrev pub taken : List ℕ
   taken = swz_l w8 8 bytes 0 row
 
@@ -197,7 +197,7 @@ module _ (bytes row ones : List ℕ) (size : length bytes ≡ 8) (fit : Each1 (F
   pub taken_front : take (length (map (λ i. get_or bytes i 0) ones)) taken ≡ map (λ i. get_or bytes i 0) ones
   taken_front = ext_get_or 0 _ _ count (λ k lt.
       let less : k < length ones = omega (arith, lt, count, same) in
-      let one : get_or row k 0 ≡ get_or ones k 0 = sym (get_or-take (length ones) row k 0 less) ∙ ap (λ (l : List ℕ). get_or l k 0) places in
+      let one : get_or row k 0 ≡ get_or ones k 0 = sym (get_or-take (length ones) row k 0 less) ∙ ap (λ (l : List ℕ). get_or l k 0) positions in
       get_or-take (length (map (λ i. get_or bytes i 0) ones)) taken k 0 (omega (arith, less, same)) ∙ taken_at k (omega (arith, less, few))
       ∙ ap (λ (j : ℕ). get_or bytes j 0) one ∙ sym (get_or-map (λ i. get_or bytes i 0) ones k 0 0 less))
     where
@@ -207,7 +207,7 @@ module _ (bytes row ones : List ℕ) (size : length bytes ≡ 8) (fit : Each1 (F
       count : length (take (length (map (λ i. get_or bytes i 0) ones)) taken) ≡ length (map (λ i. get_or bytes i 0) ones)
       count = length-take-le (length (map (λ i. get_or bytes i 0) ones)) taken (omega (arith, taken_few, taken_long))
 
--- ---- the bytes whose mark is 1, eight by eight
+-- ---- the bytes whose bit is 1, eight by eight
 
 -- the elements at numbers that rise agree, if they do below the top
 pub rising_agree : (top : ℕ) (xs : List ℕ) (f g : ℕ → ℕ) → IsRising 0 top xs → ((i : ℕ) → i < top → f i ≡ g i) → map f xs ≡ map g xs
@@ -216,19 +216,19 @@ rising_agree top xs f g rise same =
     let less : k < length xs = omega (arith, lt, length-map xs f) in
     get_or-map f xs k 0 0 less ∙ same (get_or xs k 0) (rising_top 0 top k xs rise less) ∙ sym (get_or-map g xs k 0 0 less))
 
-pub chosen_more : (base i marks : ℕ) (bytes : List ℕ)
-    → map (λ j. base + j) (map (λ j. get_or bytes j 0) (ones_from marks 0 (8 * (i + 1))))
-    ≡ map (λ j. base + j) (map (λ j. get_or bytes j 0) (ones_from marks 0 (8 * i)))
-    ++ map (λ j. base + j) (map (λ j. get_or (chunk (8 * i) 8 bytes) j 0) (ones_from (bit_and (marks / 2 ^ (8 * i)) 255) 0 8))
-chosen_more base i marks bytes =
+pub chosen_more : (base i matches : ℕ) (bytes : List ℕ)
+    → map (λ j. base + j) (map (λ j. get_or bytes j 0) (ones_from matches 0 (8 * (i + 1))))
+    ≡ map (λ j. base + j) (map (λ j. get_or bytes j 0) (ones_from matches 0 (8 * i)))
+    ++ map (λ j. base + j) (map (λ j. get_or (chunk (8 * i) 8 bytes) j 0) (ones_from (bit_and (matches / 2 ^ (8 * i)) 255) 0 8))
+chosen_more base i matches bytes =
     let e : 8 * (i + 1) ≡ 8 * i + 8 = omega arith in
     let g : ℕ → ℕ = λ j. get_or bytes j 0 in
-    let byte : List ℕ = ones_from (bit_and (marks / 2 ^ (8 * i)) 255) 0 8 in
-    let some : List ℕ = ones_from marks 0 (8 * i) in
-    ap (λ (n : ℕ). map (λ j. base + j) (map g (ones_from marks 0 n))) e ∙ ap (λ (l : List ℕ). map (λ j. base + j) (map g l)) (byte_more marks (8 * i))
+    let byte : List ℕ = ones_from (bit_and (matches / 2 ^ (8 * i)) 255) 0 8 in
+    let some : List ℕ = ones_from matches 0 (8 * i) in
+    ap (λ (n : ℕ). map (λ j. base + j) (map g (ones_from matches 0 n))) e ∙ ap (λ (l : List ℕ). map (λ j. base + j) (map g l)) (byte_more matches (8 * i))
     ∙ ap (map (λ j. base + j)) (map-append g some (map (λ j. 8 * i + j) byte)
     ∙ ap (λ (l : List ℕ). map g some ++ l) (map-map g (λ j. 8 * i + j) byte
-    ∙ rising_agree 8 byte (λ j. g (8 * i + j)) (λ j. get_or (chunk (8 * i) 8 bytes) j 0) (ones_rise (bit_and (marks / 2 ^ (8 * i)) 255) 0 8)
+    ∙ rising_agree 8 byte (λ j. g (8 * i + j)) (λ j. get_or (chunk (8 * i) 8 bytes) j 0) (ones_rise (bit_and (matches / 2 ^ (8 * i)) 255) 0 8)
     (λ j lt. sym (get_or-chunk (8 * i) 8 bytes j 0 lt))))
     ∙ map-append (λ j. base + j) (map g some) (map (λ j. get_or (chunk (8 * i) 8 bytes) j 0) byte)
 

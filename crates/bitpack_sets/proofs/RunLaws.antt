@@ -26,10 +26,10 @@ put_apart true base x part ps h = cc
 put_apart false base x part ps h = refl
 
 is_same : (m n : ℕ) → m ≡ n → eqb m n ≡ true
-is_same m n e = elim (eqb_tells m n) [ inl (is, holds) ↦ is | inr (is, fails) ↦ absurd (fails e) ]
+is_same m n e = elim (eqb_tells m n) [ inl (is, fact) ↦ is | inr (is, fails) ↦ absurd (fails e) ]
 
 is_apart : (m n : ℕ) → m ≢ n → eqb m n ≡ false
-is_apart m n e = elim (eqb_tells m n) [ inl (is, holds) ↦ absurd (e holds) | inr (is, fails) ↦ is ]
+is_apart m n e = elim (eqb_tells m n) [ inl (is, fact) ↦ absurd (e fact) | inr (is, fails) ↦ is ]
 
 joins : (base x : ℕ) (part : ℕ × List ℕ) (ps : List (ℕ × List ℕ)) → part.0 ≡ x / base → with_number base x (part ∷ ps) ≡ (x / base, x % base ∷ part.1) ∷ ps
 unfolding with_number

@@ -9,9 +9,9 @@ use Rattle.std.proofs.lemmas.Map.Views.{any-filter_same}
 use Rattle.std.proofs.lemmas.Nat.Bits.{bit_at-lt, bit_at_above, bit_at_not, bit_at_ones, bit_at_ones_above}
 use Rattle.std.proofs.lemmas.Nat.{one_shl}
 use Rattle.bitpack_sets.proofs.BitmapLaws.{those_none, those_split}
-use Rattle.bitpack_sets.proofs.CombineLaws.{IsLeftOut, holds_none, not_of, word_and}
+use Rattle.bitpack_sets.proofs.CombineLaws.{IsLeftOut, apply_none, not_of, word_and}
 use Rattle.bitpack_sets.proofs.CountLaws.{few_numbers}
-use Rattle.bitpack_sets.proofs.LoadLaws.{has_those, kept_same, none_there, those_are, those_rise}
+use Rattle.bitpack_sets.proofs.LoadLaws.{filtered_same, has_those, none_there, those_are, those_rise}
 use Rattle.bitpack_sets.proofs.OnesLaws.{ones_all}
 use Rattle.bitpack_sets.proofs.RaisedLaws.{rise_all}
 use Rattle.bitpack_sets.proofs.RowLaws.{rising_agree}
@@ -19,16 +19,16 @@ use Rattle.bitpack_sets.proofs.SliceLaws.{bits_room}
 use Rattle.bitpack_sets.proofs.UnitedLaws.{rising_filter}
 use Rattle.bitpack_sets.proofs.UnpackLaws.{by_high, lows, those_by_high}
 use Rattle.bitpack_sets.specs.Bitmaps.{has_bit}
-use Rattle.bitpack_sets.specs.Operations.{combined, holds, those}
+use Rattle.bitpack_sets.specs.Operations.{apply, combined, those}
 use Rattle.bitpack_sets.specs.Reads.{has}
-use Rattle.bitpack_sets.specs.Selections.{marked, parts_numbers}
+use Rattle.bitpack_sets.specs.Selections.{matched, parts_numbers}
 use Rattle.bitpack_sets.specs.Sets.{IsRising, bits}
 use Rattle.bitpack_sets.specs.Slices.{HasSlice, ones_from, slice_len, slice_numbers}
 use Rattle.bitpack_sets.specs.declared.blocks.Blocks.{Blocks}
 use Rattle.bitpack_sets.specs.declared.operation.Operation.{Operation}
 use Rattle.bitpack_sets.specs.declared.operation.Operation.TheVariants.{And, Or, AndNot, Xor}
 
--- ---- bits from a place on are 0
+-- ---- bits from a position on are 0
 
 pub ones_cut : (x c n : ℕ) → c ≤ n → ((i : ℕ) → c ≤ i → i < n → eqb (bit_at x i) 1 ≡ false) → ones_from x 0 n ≡ ones_from x 0 c
 unfolding ones_from
@@ -47,7 +47,7 @@ ones_below x c n small h none =
     let room = bits_room 0 c (ones_from x 0 c) (rise_all x c) in
     omega arith
 
--- more places than a number has bits
+-- more positions than a number has bits
 pub ones_longer : (x c n : ℕ) → x < 2 ^ c → c ≤ n → ones_from x 0 n ≡ ones_from x 0 c
 ones_longer x c n small h = ones_cut x c n h (λ i a b. ap (λ (k : ℕ). eqb k 1) (bit_at_above x c i small a))
 
@@ -64,9 +64,9 @@ passed_from P xs k (suc n) e =
     one_passed (P (get_or xs k 0)) (λ i. get_or xs i 0) k (filter (λ i. P (get_or xs i 0)) (range_with_len (k + 1) n)) (filter P (drop (k + 1) xs)) (passed_from P xs (k + 1) n (omega arith))
     ∙ sym (ap (filter P) (drop_more xs k 0 (omega arith)))
 
--- marks say which bytes pass a test
-abbrev pub Marks : ℕ → List ℕ → (ℕ → Bool) → Type 0
-Marks marks bytes P = (i : ℕ) → i < 32 → eqb (bit_at marks i) 1 ≡ (ltb i (length bytes) && P (get_or bytes i 0))
+-- matches say which bytes pass a test
+abbrev pub Matches : ℕ → List ℕ → (ℕ → Bool) → Type 0
+Matches matches bytes P = (i : ℕ) → i < 32 → eqb (bit_at matches i) 1 ≡ (ltb i (length bytes) && P (get_or bytes i 0))
 
 and_true : (b c : Bool) → b ≡ true → (b && c) ≡ c
 and_true b c e = ap (λ (d : Bool). d && c) e
@@ -74,33 +74,33 @@ and_true b c e = ap (λ (d : Bool). d && c) e
 pub and_false : (b c : Bool) → b ≡ false → (b && c) ≡ false
 and_false b c e = ap (λ (d : Bool). d && c) e
 
-past : (marks : ℕ) (bytes : List ℕ) (P : ℕ → Bool) → Marks marks bytes P → (i : ℕ) → length bytes ≤ i → i < 32 → eqb (bit_at marks i) 1 ≡ false
-past marks bytes P is i a b = is i b ∙ and_false (ltb i (length bytes)) (P (get_or bytes i 0)) (le-ltb i (length bytes) a)
+past : (matches : ℕ) (bytes : List ℕ) (P : ℕ → Bool) → Matches matches bytes P → (i : ℕ) → length bytes ≤ i → i < 32 → eqb (bit_at matches i) 1 ≡ false
+past matches bytes P is i a b = is i b ∙ and_false (ltb i (length bytes)) (P (get_or bytes i 0)) (le-ltb i (length bytes) a)
 
-pub marks_few : (marks : ℕ) (bytes : List ℕ) (P : ℕ → Bool) → marks < 2 ^ 32 → length bytes < 32 → Marks marks bytes P → marks < 2 ^ length bytes
-marks_few marks bytes P small few is = ones_below marks (length bytes) 32 small (omega arith) (past marks bytes P is)
+pub matches_few : (matches : ℕ) (bytes : List ℕ) (P : ℕ → Bool) → matches < 2 ^ 32 → length bytes < 32 → Matches matches bytes P → matches < 2 ^ length bytes
+matches_few matches bytes P small few is = ones_below matches (length bytes) 32 small (omega arith) (past matches bytes P is)
 
-marked_pass : (marks : ℕ) (bytes : List ℕ) (P : ℕ → Bool) → length bytes < 32 → Marks marks bytes P → marked marks bytes ≡ filter P bytes
+matched_pass : (matches : ℕ) (bytes : List ℕ) (P : ℕ → Bool) → length bytes < 32 → Matches matches bytes P → matched matches bytes ≡ filter P bytes
 unfolding ones_from
-marked_pass marks bytes P few is =
-    ap (map (λ i. get_or bytes i 0)) (ones_cut marks (length bytes) 32 (omega arith) (past marks bytes P is)
-    ∙ kept_same (λ i. eqb (bit_at marks i) 1) (λ i. P (get_or bytes i 0)) 0 (length bytes) (λ i a b.
+matched_pass matches bytes P few is =
+    ap (map (λ i. get_or bytes i 0)) (ones_cut matches (length bytes) 32 (omega arith) (past matches bytes P is)
+    ∙ filtered_same (λ i. eqb (bit_at matches i) 1) (λ i. P (get_or bytes i 0)) 0 (length bytes) (λ i a b.
     is i (omega arith) ∙ and_true (ltb i (length bytes)) (P (get_or bytes i 0)) (lt-ltb i (length bytes) (omega arith))))
     ∙ passed_from P bytes 0 (length bytes) (omega arith)
 
 has_passed : (P : ℕ → Bool) (x : ℕ) (xs : List ℕ) → has x (filter P xs) ≡ (has x xs && P x)
 has_passed P x xs = any-filter_same (λ y. eqb y x) P (P x) (λ y e. ap P (eqb-true y x e)) xs ∙ and_comm (P x) (has x xs)
 
--- the bytes whose mark is 1 are the numbers of the slice that pass
-pub marked_those : (marks : ℕ) (bytes : List ℕ) (P : ℕ → Bool) → length bytes < 32 → IsRising 0 256 bytes → Marks marks bytes P
-    → marked marks bytes ≡ those 256 (λ x. has x bytes && P x)
-marked_those marks bytes P few rise is =
-    marked_pass marks bytes P few is
+-- the bytes whose bit is 1 are the numbers of the slice that pass
+pub matched_those : (matches : ℕ) (bytes : List ℕ) (P : ℕ → Bool) → length bytes < 32 → IsRising 0 256 bytes → Matches matches bytes P
+    → matched matches bytes ≡ those 256 (λ x. has x bytes && P x)
+matched_those matches bytes P few rise is =
+    matched_pass matches bytes P few is
     ∙ sym (those_are (λ x. has x bytes && P x) 256 (filter P bytes) (rising_filter P 0 256 bytes rise) (λ x small. sym (has_passed P x bytes)))
 
--- ---- marks by masks
+-- ---- matches by masks
 
--- a mark for each byte
+-- a bit for each byte
 mask_bit : (c i : ℕ) → eqb (bit_at (2 ^ c - 1) i) 1 ≡ ltb i c
 mask_bit c i = elim (cases_lt i c) [
   | inl less ↦ ap (λ (n : ℕ). eqb n 1) (bit_at_ones c i less) ∙ sym (lt-ltb i c less)
@@ -112,26 +112,26 @@ true_or true true e = refl
 true_or true false e = absurd (true≢false (sym e))
 true_or false c e = refl
 
-pub all_marks : (marks : ℕ) (bytes : List ℕ) (P : ℕ → Bool) → marks ≡ 2 ^ length bytes - 1 → ((i : ℕ) → i < length bytes → P (get_or bytes i 0) ≡ true) → Marks marks bytes P
-all_marks marks bytes P e all i h = elim (cases_lt i (length bytes)) [
+pub all_matches : (matches : ℕ) (bytes : List ℕ) (P : ℕ → Bool) → matches ≡ 2 ^ length bytes - 1 → ((i : ℕ) → i < length bytes → P (get_or bytes i 0) ≡ true) → Matches matches bytes P
+all_matches matches bytes P e all i h = elim (cases_lt i (length bytes)) [
   | inl less ↦ ap (λ (m : ℕ). eqb (bit_at m i) 1) e ∙ mask_bit (length bytes) i ∙ true_or (ltb i (length bytes)) (P (get_or bytes i 0)) (all i less)
   | inr more ↦ ap (λ (m : ℕ). eqb (bit_at m i) 1) e ∙ mask_bit (length bytes) i ∙ le-ltb i (length bytes) more
       ∙ sym (and_false (ltb i (length bytes)) (P (get_or bytes i 0)) (le-ltb i (length bytes) more))
 ]
 
--- the marks of the others
-not_marked : (b c : Bool) → (b && not (b && c)) ≡ (b && not c)
-not_marked true c = refl
-not_marked false c = refl
+-- the matches of the others
+not_matched : (b c : Bool) → (b && not (b && c)) ≡ (b && not c)
+not_matched true c = refl
+not_matched false c = refl
 
-pub other_marks : (marks others : ℕ) (bytes : List ℕ) (P : ℕ → Bool) → others < 2 ^ 32 → Marks others bytes P
-    → marks ≡ bit_and (2 ^ length bytes - 1) (2 ^ 32 - 1 - others) → Marks marks bytes (λ x. not (P x))
-other_marks marks others bytes P small is e i h =
+pub other_matches : (matches others : ℕ) (bytes : List ℕ) (P : ℕ → Bool) → others < 2 ^ 32 → Matches others bytes P
+    → matches ≡ bit_and (2 ^ length bytes - 1) (2 ^ 32 - 1 - others) → Matches matches bytes (λ x. not (P x))
+other_matches matches others bytes P small is e i h =
     ap (λ (m : ℕ). eqb (bit_at m i) 1) e ∙ word_and (2 ^ length bytes - 1) (2 ^ 32 - 1 - others) i
     ∙ ap (λ (b : Bool). b && eqb (bit_at (2 ^ 32 - 1 - others) i) 1) (mask_bit (length bytes) i)
     ∙ ap (λ (b : Bool). ltb i (length bytes) && b)
     (ap (λ (n : ℕ). eqb n 1) (bit_at_not w32 others i small h) ∙ not_of (bit_at others i) (bit_at-lt others i) ∙ ap not (is i h))
-    ∙ not_marked (ltb i (length bytes)) (P (get_or bytes i 0))
+    ∙ not_matched (ltb i (length bytes)) (P (get_or bytes i 0))
 
 -- ---- a slice of fewer than 32 numbers
 
@@ -148,10 +148,10 @@ few_there slices start count bytes there few e =
     let size : length bytes ≡ count = sym (ap length numbers) ∙ there.slice.count_is in
     record { size = size; few = omega arith; numbers = numbers; rising = subst (IsRising 0 256) numbers there.slice.rising }
 
--- marks of its bytes, as they are found
-pub marks_found : (marks count : ℕ) (bytes own : List ℕ) (P : ℕ → Bool) → bytes ≡ own → length bytes ≡ count
-    → ((i : ℕ) → i < 32 → eqb (bit_at marks i) 1 ≡ (ltb i count && P (get_or own i 0))) → Marks marks bytes P
-marks_found marks count bytes own P e size is i h =
+-- matches of its bytes, as they are found
+pub matches_found : (matches count : ℕ) (bytes own : List ℕ) (P : ℕ → Bool) → bytes ≡ own → length bytes ≡ count
+    → ((i : ℕ) → i < 32 → eqb (bit_at matches i) 1 ≡ (ltb i count && P (get_or own i 0))) → Matches matches bytes P
+matches_found matches count bytes own P e size is i h =
     is i h ∙ ap (λ (n : ℕ). ltb i n && P (get_or own i 0)) (sym size) ∙ ap (λ (l : List ℕ). ltb i (length bytes) && P (get_or l i 0)) (sym e)
 
 pub mask_is : (count : ℕ) (bytes : List ℕ) → length bytes ≡ count → length bytes < 32 → 1 * 2 ^ count % 2 ^ 32 - 1 ≡ 2 ^ length bytes - 1
@@ -159,30 +159,30 @@ mask_is count bytes size few = ap (λ (n : ℕ). n - 1) (one_shl count 32 (omega
 
 -- ---- one slice alone
 
-pub kept : (operation : Operation) (b : Bool) → holds operation true false ≡ true → holds operation b false ≡ b
-kept operation true e = e
-kept operation false e = holds_none operation false false refl refl
+pub retained : (operation : Operation) (b : Bool) → apply operation true false ≡ true → apply operation b false ≡ b
+retained operation true e = e
+retained operation false e = apply_none operation false false refl refl
 
-pub kept_right : (operation : Operation) (b : Bool) → holds operation false true ≡ true → holds operation false b ≡ b
-kept_right operation true e = e
-kept_right operation false e = holds_none operation false false refl refl
+pub retained_right : (operation : Operation) (b : Bool) → apply operation false true ≡ true → apply operation false b ≡ b
+retained_right operation true e = e
+retained_right operation false e = apply_none operation false false refl refl
 
-pub only_left : (operation : Operation) (xs ys : List ℕ) → IsRising 0 256 xs → ys ≡ [] → holds operation true false ≡ true → xs ≡ combined 256 operation xs ys
-only_left operation xs ys rise none keeps =
-    sym (those_are (λ x. holds operation (has x xs) (has x ys)) 256 xs rise (λ i small. ap (λ (l : List ℕ). holds operation (has i xs) (has i l)) none ∙ kept operation (has i xs) keeps))
+pub only_left : (operation : Operation) (xs ys : List ℕ) → IsRising 0 256 xs → ys ≡ [] → apply operation true false ≡ true → xs ≡ combined 256 operation xs ys
+only_left operation xs ys rise none retains =
+    sym (those_are (λ x. apply operation (has x xs) (has x ys)) 256 xs rise (λ i small. ap (λ (l : List ℕ). apply operation (has i xs) (has i l)) none ∙ retained operation (has i xs) retains))
 
-pub only_right : (operation : Operation) (xs ys : List ℕ) → IsRising 0 256 ys → xs ≡ [] → holds operation false true ≡ true → ys ≡ combined 256 operation xs ys
-only_right operation xs ys rise none keeps =
-    sym (those_are (λ x. holds operation (has x xs) (has x ys)) 256 ys rise (λ i small. ap (λ (l : List ℕ). holds operation (has i l) (has i ys)) none ∙ kept_right operation (has i ys) keeps))
+pub only_right : (operation : Operation) (xs ys : List ℕ) → IsRising 0 256 ys → xs ≡ [] → apply operation false true ≡ true → ys ≡ combined 256 operation xs ys
+only_right operation xs ys rise none retains =
+    sym (those_are (λ x. apply operation (has x xs) (has x ys)) 256 ys rise (λ i small. ap (λ (l : List ℕ). apply operation (has i l) (has i ys)) none ∙ retained_right operation (has i ys) retains))
 
 -- an operation whose answer has no id that only the second has is one of these two
-pub of_both : (operation : Operation) (p q : Bool) → holds operation false true ≡ false → holds operation true false ≡ false → (p && q) ≡ holds operation p q
+pub of_both : (operation : Operation) (p q : Bool) → apply operation false true ≡ false → apply operation true false ≡ false → (p && q) ≡ apply operation p q
 of_both And p q right left = refl
 of_both Or p q right left = absurd (true≢false right)
 of_both AndNot p q right left = absurd (true≢false left)
 of_both Xor p q right left = absurd (true≢false right)
 
-pub of_first : (operation : Operation) (p q : Bool) → holds operation false true ≡ false → holds operation true false ≡ true → (p && not q) ≡ holds operation p q
+pub of_first : (operation : Operation) (p q : Bool) → apply operation false true ≡ false → apply operation true false ≡ true → (p && not q) ≡ apply operation p q
 of_first And p q right left = absurd (true≢false (sym left))
 of_first Or p q right left = absurd (true≢false right)
 of_first AndNot p q right left = refl
@@ -195,11 +195,11 @@ no_numbers slices start count e = ap (λ (n : ℕ). slice_numbers n (take (slice
 
 -- whether an operation on two bodies gives a number
 abbrev pub passes : Operation → Blocks → Blocks → ℕ → Bool
-passes operation a b x = holds operation (has x (parts_numbers a)) (has x (parts_numbers b))
+passes operation a b x = apply operation (has x (parts_numbers a)) (has x (parts_numbers b))
 
 -- a number whose high byte is left out
-pub out_of : (operation : Operation) (p q x y : Bool) → (p ≡ false → x ≡ false) → (q ≡ false → y ≡ false) → IsLeftOut operation p q → holds operation x y ≡ false
-out_of operation p q false false f g h = holds_none operation false false refl refl
+pub out_of : (operation : Operation) (p q x y : Bool) → (p ≡ false → x ≡ false) → (q ≡ false → y ≡ false) → IsLeftOut operation p q → apply operation x y ≡ false
+out_of operation p q false false f g h = apply_none operation false false refl refl
 out_of operation false q true y f g h = absurd (true≢false (f refl))
 out_of operation p false x true f g h = absurd (true≢false (g refl))
 out_of operation true q true false f g h = h.1
@@ -209,11 +209,11 @@ out_of operation true true true true f g h = h.0
 -- the numbers of one high byte
 pub lows_combined : (operation : Operation) (high : ℕ) (xs ys zs ws : List ℕ) → ((i : ℕ) → i < 256 → has i xs ≡ has (256 * high + i) zs)
     → ((i : ℕ) → i < 256 → has i ys ≡ has (256 * high + i) ws)
-    → combined 256 operation xs ys ≡ lows (λ x. holds operation (has x zs) (has x ws)) high
+    → combined 256 operation xs ys ≡ lows (λ x. apply operation (has x zs) (has x ws)) high
 unfolding those
 lows_combined operation high xs ys zs ws left right =
-    kept_same (λ x. holds operation (has x xs) (has x ys)) (λ i. holds operation (has (256 * high + i) zs) (has (256 * high + i) ws)) 0 256 (λ i low small.
-    ap (λ (b : Bool). holds operation b (has i ys)) (left i small) ∙ ap (holds operation (has (256 * high + i) zs)) (right i small))
+    filtered_same (λ x. apply operation (has x xs) (has x ys)) (λ i. apply operation (has (256 * high + i) zs) (has (256 * high + i) ws)) 0 256 (λ i low small.
+    ap (λ (b : Bool). apply operation b (has i ys)) (left i small) ∙ ap (apply operation (has (256 * high + i) zs)) (right i small))
 
 pub map_zero : (xs : List ℕ) → map (λ i. 0 + i) xs ≡ xs
 map_zero [] = refl
@@ -231,15 +231,15 @@ both_or_none false c f = f refl
 
 -- the numbers of the high bytes that the answer can have are all of it
 pub listed : (operation : Operation) (a b : Blocks) (bits : List ℕ)
-    → ((h : ℕ) → h < 256 → has_bit bits h ≡ false → holds operation (has_bit a.highs h) (has_bit b.highs h) ≡ false)
-    → ((h : ℕ) → h < 256 → has_bit bits h ≡ false → holds operation (has_bit a.highs h) false ≡ false)
-    → ((h : ℕ) → h < 256 → has_bit bits h ≡ false → holds operation false (has_bit b.highs h) ≡ false)
+    → ((h : ℕ) → h < 256 → has_bit bits h ≡ false → apply operation (has_bit a.highs h) (has_bit b.highs h) ≡ false)
+    → ((h : ℕ) → h < 256 → has_bit bits h ≡ false → apply operation (has_bit a.highs h) false ≡ false)
+    → ((h : ℕ) → h < 256 → has_bit bits h ≡ false → apply operation false (has_bit b.highs h) ≡ false)
     → those 65536 (passes operation a b) ≡ by_high (passes operation a b) (those 256 (has_bit bits))
 unfolding those
 listed operation a b bits both left right =
     let highs : List ℕ = those 256 (has_bit bits) in
     let P : ℕ → Bool = passes operation a b in
-    kept_same P (λ x. has (x / 256) highs && P x) 0 65536 (λ x low small.
+    filtered_same P (λ x. has (x / 256) highs && P x) 0 65536 (λ x low small.
     let h : ℕ = x / 256 in
     let few : x / 256 < 256 = omega arith in
     both_or_none (has h highs) (P x) (λ none.
@@ -250,13 +250,13 @@ listed operation a b bits both left right =
 
 -- ---- the bytes of a slice, and others after them
 
-marked_same : (marks : ℕ) (bytes own : List ℕ) → length own < 32 → marks < 2 ^ length own
-    → ((i : ℕ) → i < length own → get_or bytes i 0 ≡ get_or own i 0) → marked marks bytes ≡ marked marks own
-marked_same marks bytes own few small same =
+matched_same : (matches : ℕ) (bytes own : List ℕ) → length own < 32 → matches < 2 ^ length own
+    → ((i : ℕ) → i < length own → get_or bytes i 0 ≡ get_or own i 0) → matched matches bytes ≡ matched matches own
+matched_same matches bytes own few small same =
     let n : ℕ = length own in
-    let all : ones_from marks 0 32 ≡ ones_from marks 0 n = ones_longer marks n 32 small (omega arith) in
+    let all : ones_from matches 0 32 ≡ ones_from matches 0 n = ones_longer matches n 32 small (omega arith) in
     ap (map (λ i. get_or bytes i 0)) all
-    ∙ rising_agree n (ones_from marks 0 n) (λ i. get_or bytes i 0) (λ i. get_or own i 0) (rise_all marks n) same
+    ∙ rising_agree n (ones_from matches 0 n) (λ i. get_or bytes i 0) (λ i. get_or own i 0) (rise_all matches n) same
     ∙ ap (map (λ i. get_or own i 0)) (sym all)
 
 pub first_bytes : (slices : List ℕ) (start count : ℕ) (bytes : List ℕ) → HasSlice slices start count → count < 32
@@ -268,14 +268,14 @@ first_bytes slices start count bytes there few loaded i lt =
     loaded i (omega (arith, lt, own.few)) (omega (arith, lt, own.size, there.room, size))
     ∙ sym (get_or-take (slice_len count) (drop start slices) i 0 (omega (arith, lt, own.size, size)) ∙ get_or-drop start slices i 0)
 
-pub marked_first : (slices : List ℕ) (start count marks : ℕ) (bytes : List ℕ) → HasSlice slices start count → count < 32
-    → marks < 2 ^ length (take (slice_len count) (drop start slices))
+pub matched_first : (slices : List ℕ) (start count matches : ℕ) (bytes : List ℕ) → HasSlice slices start count → count < 32
+    → matches < 2 ^ length (take (slice_len count) (drop start slices))
     → ((i : ℕ) → i < 32 → start + i < length slices → get_or bytes i 0 ≡ get_or slices (start + i) 0)
-    → marked marks bytes ≡ marked marks (take (slice_len count) (drop start slices))
-marked_first slices start count marks bytes there few small loaded =
+    → matched matches bytes ≡ matched matches (take (slice_len count) (drop start slices))
+matched_first slices start count matches bytes there few small loaded =
     let own : List ℕ = take (slice_len count) (drop start slices) in
     let is = few_there slices start count own there few refl in
-    marked_same marks bytes own is.few small (first_bytes slices start count bytes there few loaded)
+    matched_same matches bytes own is.few small (first_bytes slices start count bytes there few loaded)
 
 -- ---- what is written of one high byte
 

@@ -101,7 +101,7 @@ bits_one low low' high (x ∷ xs) (y ∷ ys) (a, b) (a', b') e =
 next_bytes : (x size : ℕ) → x < 256 ^ suc size → x < 256 ^ size * 256
 next_bytes x size h = let e : 256 ^ suc size ≡ 256 ^ size * 256 = pow-suc 256 size in omega arith
 
--- numbers of so many bytes have one text
+-- numbers of so many bytes have one encoding
 pub one_le_bytes : OneLeBytes
 unfolding le_bytes
 one_le_bytes zero x y p q e = omega arith

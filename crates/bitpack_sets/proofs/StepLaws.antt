@@ -3,7 +3,7 @@ use Rattle.std.proofs.Common.{◌≡◌, ◌≢◌, ℕ, zero, suc, ◌+◌, ◌
 use mir.Val.{bool_byte}
 use Rattle.std.proofs.lemmas.List.{drop-drop, drop-set-lt, drop_more, get_or-drop, length-drop, length-take-le, take-append-drop, take_more_set}
 use Rattle.bitpack_sets.proofs.LongLaws.{Below}
-use Rattle.bitpack_sets.proofs.PlacedLaws.{IsMoved}
+use Rattle.bitpack_sets.proofs.RetainedLaws.{IsMoved}
 use Rattle.bitpack_sets.proofs.UnitedLaws.{IsUniting, not_read, other_done, passed, shared_done}
 
 below_taken : (bound n : ℕ) (xs : List ℕ) → ((k : ℕ) → k < n → get_or xs k 0 < bound) → Below bound (take n xs)

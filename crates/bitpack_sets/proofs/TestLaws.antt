@@ -13,7 +13,7 @@ use Rattle.bitpack_sets.proofs.FaultLaws.{is_below}
 use Rattle.bitpack_sets.proofs.LongLaws.{Below}
 use Rattle.bitpack_sets.proofs.PartLaws.{AreParts, join, join_parts, parts_are}
 use Rattle.bitpack_sets.proofs.SliceLaws.{slice_few, slice_many, slice_some}
-use Rattle.bitpack_sets.proofs.ToldLaws.{told}
+use Rattle.bitpack_sets.proofs.KnownLaws.{known}
 use Rattle.bitpack_sets.proofs.Words.{EachByte}
 use Rattle.bitpack_sets.specs.Sets.{IsRising, bits, blocks, blocks_of, parts, slice}
 use Rattle.bitpack_sets.specs.Slices.{AreSlices, IsBlocks, IsSlice, are_blocks, are_slices, bits_in, counts_in, first_fall, high_count, highs_in, is_slice, numbers_in, rises, slice_len, slices_in}
@@ -154,7 +154,7 @@ slices_are low high (p ∷ ps) (a, some, r, later) =
     let back : drop (slice_len (length p.1 - 1 + 1)) (slice p.1 ++ slices_of ps) ≡ slices_of ps = drop_at (slice p.1) (slices_of ps) _ len in
     let room = length-append (slice p.1) (slices_of ps) in (
       omega arith,
-      subst (IsSlice (length p.1 - 1 + 1)) (sym front) (told (length p.1 - 1 + 1) (slice p.1) p.1 r (sym n) refl),
+      subst (IsSlice (length p.1 - 1 + 1)) (sym front) (known (length p.1 - 1 + 1) (slice p.1) p.1 r (sym n) refl),
       subst (AreSlices (counts_of ps)) (sym back) (slices_are (p.0 + 1) high ps later),
     )
 
@@ -200,7 +200,7 @@ parts_blocks count ps are some size =
     record {
       some = omega arith;
       room = omega arith;
-      highs = subst (IsSlice r) (sym front) (told r hs (highs_of ps) (highs_rise 0 256 ps are) high_len refl);
+      highs = subst (IsSlice r) (sym front) (known r hs (highs_of ps) (highs_rise 0 256 ps are) high_len refl);
       count_is = ap numbers_in counts_are ∙ counted 0 256 ps are ∙ size;
       slices = subst (λ (l : List ℕ). AreSlices l (drop (1 + slice_len r + r) ((length ps - 1) ∷ (hs ++ cs) ++ ss))) (sym counts_are)
           (subst (AreSlices cs) (sym (moved' ∙ end)) (slices_are 0 256 ps are));

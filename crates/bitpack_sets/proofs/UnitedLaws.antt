@@ -138,9 +138,9 @@ pub record IsUniting (own set done rest left : List ℕ) (written from : ℕ) : 
   pub all : (x : ℕ) → (has x (done ++ rest) || has x left) ≡ (has x own || has x set)
   pub room : written + length left ≡ from + length (filter (λ x. has x left) rest)
 
-pub begun : (own set : List ℕ) (from : ℕ) → IsRising 0 (2 ^ 32) own → IsRising 0 (2 ^ 32) set → length set ≡ from + length (filter (λ x. has x set) own)
+pub started : (own set : List ℕ) (from : ℕ) → IsRising 0 (2 ^ 32) own → IsRising 0 (2 ^ 32) set → length set ≡ from + length (filter (λ x. has x set) own)
     → IsUniting own set [] own set 0 from
-begun own set from r s e = record { rises = r; later = s; all = λ x. refl; room = omega arith }
+started own set from r s e = record { rises = r; later = s; all = λ x. refl; room = omega arith }
 
 module _ (own set done rest left : List ℕ) (written from : ℕ) (so : IsUniting own set done rest left written from) where
   -- what is written is not yet read

@@ -4,7 +4,7 @@ use Rattle.std.specs.List.{filter, range_with_len}
 use Rattle.std.proofs.lemmas.Bool.{cases_lt, ne_eqb}
 use Rattle.std.proofs.lemmas.List.{drop_all, drop_more, length-map, map-append}
 use Rattle.bitpack_sets.proofs.BitmapLaws.{has_part, those_few, those_more, those_none, those_raised, those_split}
-use Rattle.bitpack_sets.proofs.LoadLaws.{kept_same}
+use Rattle.bitpack_sets.proofs.LoadLaws.{filtered_same}
 use Rattle.bitpack_sets.proofs.OnesLaws.{rising_lower}
 use Rattle.bitpack_sets.proofs.RaisedLaws.{map_raised}
 use Rattle.bitpack_sets.proofs.ReadLaws.{has_below}
@@ -76,10 +76,10 @@ numbers_from P low (suc n) (high ∷ highs) e (a, r) =
       | inr more ↦ (
           let same : high ≡ low = omega arith in
           ap (λ (l : List ℕ). l ++ filter p (range_with_len (256 * (low + 1)) (256 * n)))
-          (kept_same p P (256 * low) 256 (λ x b d. here P high low x highs same b d) ∙ one_high P low
+          (filtered_same p P (256 * low) 256 (λ x b d. here P high low x highs same b d) ∙ one_high P low
           ∙ ap (λ (k : ℕ). map (λ i. 256 * k + i) (lows P k)) (sym same))
           ∙ ap (λ (l : List ℕ). map (λ i. 256 * high + i) (lows P high) ++ l)
-          (kept_same p (λ x. has (x / 256) highs && P x) (256 * (low + 1)) (256 * n) (λ x b d. later P high low x highs same b)
+          (filtered_same p (λ x. has (x / 256) highs && P x) (256 * (low + 1)) (256 * n) (λ x b d. later P high low x highs same b)
           ∙ numbers_from P (low + 1) n highs (omega arith) (rising_lower (high + 1) (low + 1) 256 highs (omega arith) r)))
     ]
 
@@ -121,4 +121,4 @@ unfolding those
 lows_cut high words =
     let four : 4 * high + 4 - 4 * high ≡ 4 = omega arith in
     ap (λ (n : ℕ). those 256 (has_bit (take n (drop (4 * high) words)))) four
-    ∙ kept_same (has_bit (take 4 (drop (4 * high) words))) (λ i. has_bit words (256 * high + i)) 0 256 (λ x a b. has_part words high x b)
+    ∙ filtered_same (has_bit (take 4 (drop (4 * high) words))) (λ i. has_bit words (256 * high + i)) 0 256 (λ x a b. has_part words high x b)

@@ -1,4 +1,4 @@
--- Increasing ids from a place on, place by place.
+-- Increasing ids from a position on, position by position.
 use Rattle.std.proofs.Common.{◌≡◌, ℕ, zero, suc, ◌+◌, ◌-◌, ◌*◌, ◌/◌, ◌%◌, ◌^◌, ◌<◌, ◌≤◌, Bool, false, ◌||◌, List, [], ◌∷◌, map, drop, length, get_or, refl, ap, subst, ◌∙◌, arith}
 use Rattle.std.proofs.Math.Bool.{or-false}
 use Rattle.std.proofs.lemmas.Bool.{ne_eqb}
@@ -13,7 +13,7 @@ use Rattle.bitpack_sets.specs.Chunks.{first_key}
 use Rattle.bitpack_sets.specs.Reads.{has}
 use Rattle.bitpack_sets.specs.Sets.{IsRising}
 
--- `ids p` are the ids from place p on: keys do not fall, and only ids of the key of a place are passed there
+-- `ids p` are the ids from position p on: keys do not fall, and only ids of the key of a position are passed there
 pub record IsWalk (n : ℕ) (ids : ℕ → List ℕ) : Type 0 where
   pub end : (p : ℕ) → n ≤ p → first_key (ids p) ≡ 65536
   pub up : (p : ℕ) → p < n → first_key (ids p) ≤ first_key (ids (p + 1))
@@ -35,7 +35,7 @@ rising_from low high zero xs r = r
 rising_from low high (suc i) [] r = r
 rising_from low high (suc i) (x ∷ xs) (a, r) = rising_lower (x + 1) low high (drop i xs) (omega arith) (rising_from (x + 1) high i xs r)
 
--- a place is the position of an id
+-- a position is the position of an id
 pub array_key : (p : ℕ) (xs : List ℕ) → p < length xs → first_key (drop p xs) ≡ get_or xs p 0 / 65536
 array_key p xs h = ap first_key (drop_more xs p 0 h)
 
@@ -90,7 +90,7 @@ part_own low x part ps (a, some, r, later) e =
     ∙ ap (λ (b : Bool). has x (map (λ low. part.0 * 65536 + low) part.1) || b) (part_under (part.0 + 1) x ps later (omega arith))
     ∙ or-false (has x (map (λ low. part.0 * 65536 + low) part.1)) ∙ has_same 65536 x part.0 0 part.1 r e
 
--- ---- places are passed
+-- ---- positions are passed
 
 pub walk_up : (n : ℕ) (ids : ℕ → List ℕ) → IsWalk n ids → (p d q : ℕ) → q ≡ p + d → q ≤ n → first_key (ids p) ≤ first_key (ids q)
 walk_up n ids w p zero q e h = let same : first_key (ids q) ≡ first_key (ids p) = ap (λ (m : ℕ). first_key (ids m)) (let f : q ≡ p = omega arith in f) in omega arith
@@ -104,23 +104,23 @@ walk_pass n ids w x key p (suc d) q e h less most =
     let up = walk_up n ids w p (suc d) q e (omega arith) in
     w.pass p x (omega arith) (omega arith) ∙ walk_pass n ids w x key (p + 1) d q (omega arith) h less most
 
--- ---- the first place whose key is not below one, by halves
+-- ---- the first position whose key is not below one, by halves
 
-pub record IsSought (n : ℕ) (ids : ℕ → List ℕ) (place key low left : ℕ) : Type 0 where
+pub record IsSought (n : ℕ) (ids : ℕ → List ℕ) (position key low left : ℕ) : Type 0 where
   pub within : low + left ≤ n
-  pub later : place ≤ low
-  pub lower : (p : ℕ) → place ≤ p → p < low → first_key (ids p) < key
+  pub later : position ≤ low
+  pub lower : (p : ℕ) → position ≤ p → p < low → first_key (ids p) < key
   pub reached : key ≤ first_key (ids (low + left))
-  pub same : (x : ℕ) → key * 65536 ≤ x → has x (ids place) ≡ has x (ids low)
+  pub same : (x : ℕ) → key * 65536 ≤ x → has x (ids position) ≡ has x (ids low)
 
-pub sought_start : (n : ℕ) (ids : ℕ → List ℕ) → IsWalk n ids → (place key left : ℕ) → place ≤ n → key ≤ 65536 → left ≡ n - place → IsSought n ids place key place left
-sought_start n ids w place key left h most e =
-    let top : first_key (ids (place + left)) ≡ 65536 = w.end (place + left) (omega arith) in
+pub sought_start : (n : ℕ) (ids : ℕ → List ℕ) → IsWalk n ids → (position key left : ℕ) → position ≤ n → key ≤ 65536 → left ≡ n - position → IsSought n ids position key position left
+sought_start n ids w position key left h most e =
+    let top : first_key (ids (position + left)) ≡ 65536 = w.end (position + left) (omega arith) in
     record { within = omega arith; later = omega arith; lower = λ p a b. absurd (omega arith); reached = omega arith; same = λ x h. refl }
 
-pub sought_right : (n : ℕ) (ids : ℕ → List ℕ) → IsWalk n ids → (place key low left half : ℕ) → IsSought n ids place key low left → half < left → first_key (ids (low + half)) < key
-    → IsSought n ids place key (low + (half + 1)) (left - (half + 1))
-sought_right n ids w place key low left half s h less =
+pub sought_right : (n : ℕ) (ids : ℕ → List ℕ) → IsWalk n ids → (position key low left half : ℕ) → IsSought n ids position key low left → half < left → first_key (ids (low + half)) < key
+    → IsSought n ids position key (low + (half + 1)) (left - (half + 1))
+sought_right n ids w position key low left half s h less =
     let within = s.within in
     let later = s.later in
     let all : low + left ≡ low + (half + 1) + (left - (half + 1)) = omega arith in

@@ -8,7 +8,7 @@ abbrev pub EachByte : List ℕ → Type 0
 EachByte [] = Unit {0}
 EachByte (byte ∷ bytes) = (byte < 256) × EachByte bytes
 
--- numbers of so many bytes have one text
+-- numbers of so many bytes have one encoding
 abbrev pub OneLeBytes : Type 0
 OneLeBytes = (size x y : ℕ) → x < 256 ^ size → y < 256 ^ size → le_bytes size x ≡ le_bytes size y → x ≡ y
 
@@ -34,4 +34,4 @@ pub record IsArray (ids bytes : List ℕ) : Type 0 where
   pub many : 128 ≤ length ids
   pub few : length ids ≤ 2 ^ 28
   pub apart : length ids < 4 * length (parts (2 ^ 16) ids)
-  pub text : array ids ≡ 6 ∷ bytes
+  pub encoding : array ids ≡ 6 ∷ bytes

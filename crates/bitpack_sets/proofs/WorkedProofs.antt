@@ -4,22 +4,22 @@ use lib.Count.{ones}
 use Rattle.bitpacking.specs.Layout.{codes_of, place}
 use Rattle.bitpacking.specs.Words.{joined}
 use Rattle.bitpack_sets.specs.Faults.{array_fault, body_fault, body_fault_at, chunk_count_fault, chunks_fault, count_fault, entry_fault, fault, first_of, first_over, ids_fault, ids_from, in_chunks_fault, loose_sizes_fault, short_fault, sizes_fault, some_fault}
-use Rattle.bitpack_sets.specs.Sets.{array, bits, blocks_of, body, gaps, group, groups, in_chunks, le_bytes, long, numbers, packed, parts, short, slice, sums, text, width_from, with_number}
+use Rattle.bitpack_sets.specs.Sets.{array, bits, blocks_of, body, encoding, gaps, group, groups, in_chunks, le_bytes, long, numbers, packed, parts, short, slice, sums, width_from, with_number}
 use Rattle.bitpack_sets.specs.Slices.{are_blocks, are_slices, bits_in, first_fall, numbers_in, pairs_of, quads_of}
 use Rattle.bitpack_sets.specs.Varints.{after_groups, are_loose, going_on, group_fault, groups_codes, groups_fault, number_end, number_fault, number_in, number_value, short_at}
 use Rattle.bitpack_sets.specs.WorkedFaults.{WorkedChanges, WorkedFaults}
 use Rattle.bitpack_sets.specs.WorkedSets.{WorkedFull, WorkedLong, WorkedShort}
 
 pub worked_short : WorkedShort
-unfolding number_in le_bytes gaps width_from packed group groups short text
+unfolding number_in le_bytes gaps width_from packed group groups short encoding
 worked_short = (refl, refl, refl, refl, refl, refl, refl, refl)
 
 pub worked_long : WorkedLong
-unfolding number_in le_bytes bits slice with_number parts blocks_of numbers body sums in_chunks array long text
+unfolding number_in le_bytes bits slice with_number parts blocks_of numbers body sums in_chunks array long encoding
 worked_long = (refl, refl, refl, refl, refl, refl, refl, refl, refl)
 
 pub worked_full : WorkedFull
-unfolding number_in le_bytes bits slice with_number parts blocks_of numbers body sums in_chunks array long text
+unfolding number_in le_bytes bits slice with_number parts blocks_of numbers body sums in_chunks array long encoding
 worked_full = refl
 
 pub worked_faults : WorkedFaults

@@ -14,8 +14,8 @@ abbrev pub has_high : ℕ → List ℕ → Bool
 has_high high xs = list_any (λ x. x / 256 == high) xs
 
 -- the bits of these high bytes say which of these numbers there are; other bits say nothing
-abbrev pub Holds : List ℕ → List ℕ → List ℕ → Type 0
-Holds highs words xs = (x : ℕ) → x < 65536 → has (x / 256) highs ≡ true → has_bit words x ≡ has x xs
+abbrev pub Represents : List ℕ → List ℕ → List ℕ → Type 0
+Represents highs words xs = (x : ℕ) → x < 65536 → has (x / 256) highs ≡ true → has_bit words x ≡ has x xs
 
 -- the numbers that have one of these high bytes, and whose bits are 1
 abbrev pub bitmap_numbers : List ℕ → List ℕ → List ℕ

@@ -37,8 +37,8 @@ ids_from first (code ∷ codes) = first ∷ ids_from (first + code + 1) codes
 
 -- the first position whose id is 2 ^ 32 or above, if the first id has this position
 unfoldable pub first_over : ℕ → List ℕ → Option ℕ
-first_over place [] = None
-first_over place (x ∷ xs) = if nat_le (2 ^ 32) x then Some place else first_over (place + 1) xs
+first_over position [] = None
+first_over position (x ∷ xs) = if nat_le (2 ^ 32) x then Some position else first_over (position + 1) xs
 
 -- the ids of what is after byte 0, one and `more`
 abbrev pub short_ids : ℕ → List ℕ → List ℕ

@@ -9,7 +9,6 @@ pub mod Faults
 pub mod Folds
 pub mod Follows
 pub mod Fronts
-pub mod Kept
 pub mod Laws
 pub mod Lists
 pub mod Opened
@@ -19,6 +18,7 @@ pub mod Props
 pub mod Queried
 pub mod Queries
 pub mod Reads
+pub mod Retained
 pub mod Rooms
 pub mod Selections
 pub mod Sets

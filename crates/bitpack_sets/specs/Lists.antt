@@ -22,8 +22,8 @@ OfKey key (Ids list) = listed_ids list ≡ map (λ low. key * 65536 + low) (map 
 OfKey key (Blocks body) = IsBlocks (length (block_numbers body.now)) body.now
 
 -- whether numbers have the low 16 bits of an id, or whether they lack them
-abbrev pub keeps : Bool → List ℕ → ℕ → Bool
-keeps there numbers id = if there then has (id % 65536) numbers else not (has (id % 65536) numbers)
+abbrev pub retains : Bool → List ℕ → ℕ → Bool
+retains there numbers id = if there then has (id % 65536) numbers else not (has (id % 65536) numbers)
 
 -- whether a bitmap has a number, if its high byte is one of these
 abbrev pub in_bitmap : List ℕ → List ℕ → ℕ → Bool

@@ -4,9 +4,9 @@ use Rattle.bitpack_sets.specs.declared.id_set.IdSet.{IdSet}
 use Rattle.bitpack_sets.specs.Reads.{ids_in}
 
 -- its bytes
-abbrev pub text_of : IdSet → List ℕ
-text_of set = set.bytes.now
+abbrev pub encoding_of : IdSet → List ℕ
+encoding_of set = set.bytes.now
 
 -- its ids
 abbrev pub ids : IdSet → List ℕ
-ids set = ids_in (text_of set)
+ids set = ids_in (encoding_of set)

@@ -6,11 +6,11 @@ use Rattle.bitpack_sets.specs.declared.operation.Operation.{Operation}
 use Rattle.bitpack_sets.specs.declared.operation.Operation.TheVariants.{And, Or, AndNot, Xor}
 
 -- whether the answer has an id
-abbrev pub holds : Operation → Bool → Bool → Bool
-holds And a b = a && b
-holds Or a b = a || b
-holds AndNot a b = a && not b
-holds Xor a b = if a then not b else b
+abbrev pub apply : Operation → Bool → Bool → Bool
+apply And a b = a && b
+apply Or a b = a || b
+apply AndNot a b = a && not b
+apply Xor a b = if a then not b else b
 
 -- the numbers below a bound that pass a test
 unfoldable pub those : ℕ → (ℕ → Bool) → List ℕ
@@ -18,7 +18,7 @@ those bound passes = filter passes (range_with_len 0 bound)
 
 -- those that an operation on two sets gives
 abbrev pub combined : ℕ → Operation → List ℕ → List ℕ → List ℕ
-combined bound operation xs ys = those bound (λ x. holds operation (has x xs) (has x ys))
+combined bound operation xs ys = those bound (λ x. apply operation (has x xs) (has x ys))
 
 -- the ids of the answer of two sets
 abbrev pub answer : Operation → List ℕ → List ℕ → List ℕ
@@ -27,7 +27,7 @@ answer operation xs ys = combined (2 ^ 32) operation xs ys
 -- the first set combined with each other in turn; of none it is false
 abbrev pub folded : Operation → List Bool → Bool
 folded operation [] = false
-folded operation (a ∷ others) = fold (holds operation) a others
+folded operation (a ∷ others) = fold (apply operation) a others
 
 -- the ids of the answer of any number of sets
 abbrev pub answer_all : Operation → List (List ℕ) → List ℕ

@@ -2,7 +2,7 @@
 use Rattle.std.specs.Prelude.{◌≡◌, ℕ, ◌+◌, ◌-◌, ◌/◌, ◌%◌, ◌^◌, ◌<◌, ◌&&◌, ◌==◌, nat_lt, nat_le, if◌then◌else◌, Bool, false, List, [], ◌∷◌, get_or, map, max, slice_index_or, Option, Some, None, Result, Ok, Err}
 use Rattle.std.specs.List.{filter, fold}
 use Rattle.bitpack_sets.specs.Bitmaps.{has_bit}
-use Rattle.bitpack_sets.specs.Operations.{holds, those}
+use Rattle.bitpack_sets.specs.Operations.{apply, those}
 use Rattle.bitpack_sets.specs.Reads.{has}
 use Rattle.bitpack_sets.specs.declared.query_error.QueryError.{QueryError}
 use Rattle.bitpack_sets.specs.declared.query_error.QueryError.TheVariants.{Empty, LeftOver, MissingOperand, NoSet, Short, TooDeep}
@@ -45,7 +45,7 @@ abbrev pub waiting_after : (ℕ → Bool) → List Bool → Step → List Bool
 waiting_after member waiting (Set i) = member i ∷ waiting
 waiting_after member [] (Combine operation) = []
 waiting_after member (b ∷ []) (Combine operation) = []
-waiting_after member (b ∷ a ∷ waiting) (Combine operation) = holds operation a b ∷ waiting
+waiting_after member (b ∷ a ∷ waiting) (Combine operation) = apply operation a b ∷ waiting
 
 abbrev pub evaluate : List Step → (ℕ → Bool) → List Bool
 evaluate steps member = fold (waiting_after member) [] steps

@@ -1,7 +1,7 @@
 -- Slices of a body, and some numbers of a slice.
 use Rattle.std.specs.Prelude.{ℕ, ◌+◌, ◌/◌, ◌&&◌, List, drop, map, slice_index, take}
 use Rattle.bitpack_sets.specs.Bitmaps.{has_bit}
-use Rattle.bitpack_sets.specs.Operations.{holds, those}
+use Rattle.bitpack_sets.specs.Operations.{apply, those}
 use Rattle.bitpack_sets.specs.Reads.{has}
 use Rattle.bitpack_sets.specs.Slices.{numbers_of, ones_from, slice_len, slice_numbers}
 use Rattle.bitpack_sets.specs.declared.blocks.Blocks.{Blocks}
@@ -15,9 +15,9 @@ bytes_of slice = take (slice_len slice.count) (drop slice.start slice.slices.now
 abbrev pub numbers_at : Slice → List ℕ
 numbers_at slice = slice_numbers slice.count (bytes_of slice)
 
--- the bytes whose mark is 1
-abbrev pub marked : ℕ → List ℕ → List ℕ
-marked marks bytes = map (slice_index bytes) (ones_from marks 0 32)
+-- the bytes whose bit is 1
+abbrev pub matched : ℕ → List ℕ → List ℕ
+matched matches bytes = map (slice_index bytes) (ones_from matches 0 32)
 
 -- the numbers of the parts of a body
 abbrev pub parts_numbers : Blocks → List ℕ
@@ -29,4 +29,4 @@ word_highs first word = map (λ i. first + i) (ones_from word 0 64)
 
 -- the numbers of the answer of two bodies that have one of these high bytes
 abbrev pub answer_with : List ℕ → Operation → Blocks → Blocks → List ℕ
-answer_with highs operation a b = those 65536 (λ x. has (x / 256) highs && holds operation (has x (parts_numbers a)) (has x (parts_numbers b)))
+answer_with highs operation a b = those 65536 (λ x. has (x / 256) highs && apply operation (has x (parts_numbers a)) (has x (parts_numbers b)))

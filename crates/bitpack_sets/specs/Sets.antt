@@ -84,5 +84,5 @@ short [] = 128 ∷ []
 short (x ∷ xs) = (129 + length xs) ∷ number x ++ groups (groups_of (length xs)) (gaps x xs)
 
 -- the encoding of a set
-unfoldable pub text : List ℕ → List ℕ
-text ids = if nat_lt (length ids) 128 then short ids else long ids
+unfoldable pub encoding : List ℕ → List ℕ
+encoding ids = if nat_lt (length ids) 128 then short ids else long ids

@@ -21,9 +21,9 @@ bits_in (byte ∷ bytes) = count_ones byte + bits_in bytes
 
 -- the first position whose number is not above the one before, if the first number has this position
 unfoldable pub first_fall : ℕ → List ℕ → Option ℕ
-first_fall place [] = None
-first_fall place (x ∷ []) = None
-first_fall place (x ∷ y ∷ ys) = if nat_le y x then Some (place + 1) else first_fall (place + 1) (y ∷ ys)
+first_fall position [] = None
+first_fall position (x ∷ []) = None
+first_fall position (x ∷ y ∷ ys) = if nat_le y x then Some (position + 1) else first_fall (position + 1) (y ∷ ys)
 
 abbrev pub rises : List ℕ → Bool
 rises xs = is_none (first_fall 0 xs)
@@ -115,7 +115,7 @@ integers_of wide bytes = if wide then quads_of bytes else pairs_of bytes
 pub record IsSlice (count : ℕ) (bytes : List ℕ) : Type 0 where
   pub rising : IsRising 0 256 (slice_numbers count bytes)
   pub count_is : length (slice_numbers count bytes) ≡ count
-  pub text : slice (slice_numbers count bytes) ≡ bytes
+  pub encoding : slice (slice_numbers count bytes) ≡ bytes
 
 -- the bytes of the slice of `count` numbers that begins at `start` are there, and are a slice
 pub record HasSlice (bytes : List ℕ) (start count : ℕ) : Type 0 where
@@ -143,4 +143,4 @@ pub record IsBlocks (count : ℕ) (body : List ℕ) : Type 0 where
 pub record AreRows (rows : List (List ℕ)) : Type 0 where
   pub count : length rows ≡ 256
   pub small : (byte k : ℕ) (none : List ℕ) → byte < 256 → k < 8 → slice_index (slice_index_or rows byte none) k < 8
-  pub places : (byte : ℕ) (none : List ℕ) → byte < 256 → take (length (ones_from byte 0 8)) (slice_index_or rows byte none) ≡ ones_from byte 0 8
+  pub positions : (byte : ℕ) (none : List ℕ) → byte < 256 → take (length (ones_from byte 0 8)) (slice_index_or rows byte none) ≡ ones_from byte 0 8

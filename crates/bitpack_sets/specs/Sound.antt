@@ -8,7 +8,7 @@ use Rattle.bitpack_sets.specs.Varints.{byte_count}
 pub record IsBody (count : ℕ) (bytes xs : List ℕ) : Type 0 where
   pub rising : IsRising 0 65536 xs
   pub count_is : length xs ≡ count
-  pub text : body xs ≡ bytes
+  pub encoding : body xs ≡ bytes
 
 -- the key, the sum and the end of chunk m
 pub record IsEntry (ids chunks : ℕ) (rest : List ℕ) (m : ℕ) : Type 0 where

@@ -1,4 +1,4 @@
--- Texts worked by hand that are refused, and what opens.
+-- Encodings worked by hand that are refused, and what opens.
 use Rattle.std.specs.Prelude.{◌≡◌, ℕ, ◌*◌, ◌/◌, ◌%◌, List, [], ◌∷◌, ◌++◌, replicate, Some, None}
 use Rattle.std.specs.List.{flat_map, range_with_len}
 use Rattle.bitpack_sets.specs.declared.set_error.SetError.TheVariants.{Short, BadVersion, TooLong, BadOffset, NotSorted, Trailing, BadNumber, BadSizes, Padding, BadSum, BadBody, LooseBody, LooseForm}

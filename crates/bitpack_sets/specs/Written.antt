@@ -5,7 +5,7 @@ use Rattle.std.specs.Option.{option_map}
 use Rattle.std.specs.declared.vec.Vec.{Vec}
 use Rattle.bitpack_sets.specs.declared.set_error.SetError.{SetError}
 use Rattle.bitpack_sets.specs.declared.set_error.SetError.TheVariants.{Memory, NotSorted, Short, TooLong}
-use Rattle.bitpack_sets.specs.Sets.{IsRising, IsSet, body, le_bytes, parts, slice, sums, text}
+use Rattle.bitpack_sets.specs.Sets.{IsRising, IsSet, body, encoding, le_bytes, parts, slice, sums}
 use Rattle.bitpack_sets.specs.Slices.{first_fall}
 use Rattle.bitpack_sets.specs.Varints.{number}
 
@@ -60,14 +60,14 @@ bodies ids = map (λ chunk. body chunk.1) (parts (2 ^ 16) ids)
 
 -- the keys of ids in chunks, the ends of their bodies, the first beginning at `start`, and the sums of their ids, after
 -- `before` before them
-abbrev pub keys_text : List ℕ → List ℕ
-keys_text ids = flat_map (le_bytes 2) (map (λ chunk. chunk.0) (parts (2 ^ 16) ids))
+abbrev pub keys_encoding : List ℕ → List ℕ
+keys_encoding ids = flat_map (le_bytes 2) (map (λ chunk. chunk.0) (parts (2 ^ 16) ids))
 
-abbrev pub ends_text : ℕ → ℕ → List ℕ → List ℕ
-ends_text size start ids = flat_map (le_bytes size) (sums start (map length (bodies ids)))
+abbrev pub ends_encoding : ℕ → ℕ → List ℕ → List ℕ
+ends_encoding size start ids = flat_map (le_bytes size) (sums start (map length (bodies ids)))
 
-abbrev pub sums_text : ℕ → ℕ → List ℕ → List ℕ
-sums_text size before ids = flat_map (le_bytes size) (sums before (map (λ chunk. length chunk.1) (parts (2 ^ 16) ids)))
+abbrev pub sums_encoding : ℕ → ℕ → List ℕ → List ℕ
+sums_encoding size before ids = flat_map (le_bytes size) (sums before (map (λ chunk. length chunk.1) (parts (2 ^ 16) ids)))
 
 -- what is before the directory of a set in chunks
 abbrev pub head : ℕ → ℕ → ℕ → ℕ → List ℕ
@@ -75,13 +75,13 @@ head count chunks end_size sum_size = 5 ∷ number count ++ (number chunks ++ (e
 
 -- the directory and the bodies
 abbrev pub directory : ℕ → ℕ → List ℕ → List ℕ
-directory end_size sum_size ids = keys_text ids ++ (ends_text end_size 0 ids ++ (sums_text sum_size 0 ids ++ concat (bodies ids)))
+directory end_size sum_size ids = keys_encoding ids ++ (ends_encoding end_size 0 ids ++ (sums_encoding sum_size 0 ids ++ concat (bodies ids)))
 
 -- ---- what is measured, and written
 
 -- the length of the encoding of a set, from 128 ids on how many chunks it has, and in chunks how many bytes are bodies
 pub record IsMeasured (ids : List ℕ) (len chunks bytes : ℕ) : Type 0 where
-  pub len_is : len ≡ length (text ids)
+  pub len_is : len ≡ length (encoding ids)
   pub chunks_is : 128 ≤ length ids → chunks ≡ length (parts (2 ^ 16) ids)
   pub bytes_is : 128 ≤ length ids → 4 * chunks ≤ length ids → bytes ≡ length (concat (bodies ids))
   pub few : chunks ≤ length ids
@@ -90,42 +90,42 @@ pub record IsMeasured (ids : List ℕ) (len chunks bytes : ℕ) : Type 0 where
 -- the length of the encoding of a set; or the ids are none
 pub record MeasuresSet (ids : List ℕ) (result : Result ℕ SetError) : Type 0 where
   pub set : OnOk result (IsSet ids)
-  pub len : IfOk result (λ len. len ≡ length (text ids))
+  pub len : IfOk result (λ len. len ≡ length (encoding ids))
   pub fault : MatchOption (refusal ids) (IsOk result) (λ fault. result ≡ Err fault)
 
 -- the encoding of a set is written, and what is after it is unchanged; or the ids are none, or the slice is too short, and nothing changed
 pub record WritesSet (ids : List ℕ) (result : Result ℕ SetError) (old new : List ℕ) : Type 0 where
   pub set : OnOk result (IsSet ids)
-  pub len : IfOk result (λ len. len ≡ length (text ids))
-  pub ok : OnOk result (new ≡ text ids ++ drop (length (text ids)) old)
+  pub len : IfOk result (λ len. len ≡ length (encoding ids))
+  pub ok : OnOk result (new ≡ encoding ids ++ drop (length (encoding ids)) old)
   pub fault : MatchOption (refusal ids) (IfErr result (λ e. e ≡ Short)) (λ fault. result ≡ Err fault)
-  pub room : refusal ids ≡ None → OnErr result (length old < length (text ids))
+  pub room : refusal ids ≡ None → OnErr result (length old < length (encoding ids))
   pub unchanged : OnErr result (new ≡ old)
 
 -- WritesSet with work space for `space` ids: it is enough if all ids fit in it
 pub record WritesWith (space : ℕ) (ids : List ℕ) (result : Result ℕ SetError) (old new : List ℕ) : Type 0 where
   pub set : OnOk result (IsSet ids)
-  pub len : IfOk result (λ len. len ≡ length (text ids))
-  pub ok : OnOk result (new ≡ text ids ++ drop (length (text ids)) old)
+  pub len : IfOk result (λ len. len ≡ length (encoding ids))
+  pub ok : OnOk result (new ≡ encoding ids ++ drop (length (encoding ids)) old)
   pub fault : MatchOption (refusal ids) (IfErr result (λ e. e ≡ Short)) (λ fault. result ≡ Err fault)
-  pub room : refusal ids ≡ None → length ids ≤ space → OnErr result (length old < length (text ids))
+  pub room : refusal ids ≡ None → length ids ≤ space → OnErr result (length old < length (encoding ids))
   pub unchanged : OnErr result (new ≡ old)
 
 -- the encoding of a set is appended; or the ids are none, or the vector has no room and memory runs out, and nothing changed
 pub record AppendsSet {A : Type 0} (ids : List ℕ) (result : Result (Unit {0}) SetError) (old new : Vec ℕ A) : Type 0 where
   pub set : OnOk result (IsSet ids)
-  pub ok : OnOk result (new.items ≡ old.items ++ text ids)
+  pub ok : OnOk result (new.items ≡ old.items ++ encoding ids)
   pub fault : MatchOption (refusal ids) (IfErr result (λ e. e ≡ Memory)) (λ fault. result ≡ Err fault)
-  pub room : refusal ids ≡ None → OnErr result (vec_capacity old < vec_len old + length (text ids))
+  pub room : refusal ids ≡ None → OnErr result (vec_capacity old < vec_len old + length (encoding ids))
   pub unchanged : OnErr result (new.items ≡ old.items)
-  pub kept : OnErr result (vec_capacity new ≡ vec_capacity old)
+  pub capacity : OnErr result (vec_capacity new ≡ vec_capacity old)
 
 -- bytes are appended; or memory runs out, and nothing changed
 pub record Appends {A : Type 0} (bytes : List ℕ) (result : Result (Unit {0}) SetError) (old new : Vec ℕ A) : Type 0 where
   pub ok : OnOk result (new.items ≡ old.items ++ bytes)
   pub memory : IfErr result (λ e. e ≡ Memory)
   pub unchanged : OnErr result (new.items ≡ old.items)
-  pub kept : OnErr result (vec_capacity new ≡ vec_capacity old)
+  pub capacity : OnErr result (vec_capacity new ≡ vec_capacity old)
 
 -- bytes are written, and what is after them is unchanged; or the slice is too short, and nothing changed
 pub record WritesBytes (bytes : List ℕ) (result : Result ℕ SetError) (old new : List ℕ) : Type 0 where

@@ -5,7 +5,7 @@ ghost use Rattle.std.specs.List.{concat};
 ghost use Rattle.bitpack_sets.specs.Errors.{Finds};
 ghost use Rattle.bitpack_sets.specs.Fronts.{IsFront, IsNext, front_ids};
 ghost use Rattle.bitpack_sets.specs.Opened.{ids};
-ghost use Rattle.bitpack_sets.specs.Sets.{IsSet, in_chunks, parts, text};
+ghost use Rattle.bitpack_sets.specs.Sets.{IsSet, encoding, in_chunks, parts};
 ghost use Rattle.bitpack_sets.specs.Written.{Appends, WritesBytes, WritesWith, bodies, refusal};
 
 use crate::encoding::chunks::chunks_len;
@@ -24,11 +24,11 @@ use std::alloc::Global;
 /// It allocates for the ids that are not, and the vector grows at most once.
 pub fn append(alloc: Global, set: &IdSet, more: &[u32], out: &mut Vec<u8>) -> Result<(), SetError>
     ensures set { OnOk result (IsSet (ids set.now ++ more.now)) }
-    ensures ok { OnOk result (out.new.items ≡ out.old.items ++ text (ids set.now ++ more.now)) }
+    ensures ok { OnOk result (out.new.items ≡ out.old.items ++ encoding (ids set.now ++ more.now)) }
     ensures fault { MatchOption (refusal (ids set.now ++ more.now)) (IfErr result (λ e. e ≡ SetError.Memory))
         (λ fault. result ≡ Err fault) }
     ensures unchanged { OnErr result (out.new.items ≡ out.old.items) }
-    ensures kept { OnErr result (vec_capacity out.new ≡ vec_capacity out.old) }
+    ensures capacity { OnErr result (vec_capacity out.new ≡ vec_capacity out.old) }
 {
     test_after(set, more)?;
     let mut room = Vec::new(alloc);
@@ -72,7 +72,7 @@ fn append_ids(
 ) -> Result<(), SetError>
     requires set { IsSet (ids set.now ++ more.now) }
     requires room { room.old.items ≡ [] }
-    ensures { Appends (text (ids set.now ++ more.now)) result out.old out.new }
+    ensures { Appends (encoding (ids set.now ++ more.now)) result out.old out.new }
 {
     match set.front() {
         Some(front) => append_after(&front, set, more, room, out),
@@ -91,7 +91,7 @@ fn append_after(
     requires set { IsSet (ids set.now ++ more.now) }
     requires front { IsFront (front_ids front.now) (ids set.now) }
     requires room { room.old.items ≡ [] }
-    ensures { Appends (text (ids set.now ++ more.now)) result out.old out.new }
+    ensures { Appends (encoding (ids set.now ++ more.now)) result out.old out.new }
 {
     unpack_with(set, front.len(), more, room)?;
     let (chunks, size) = front.measure(room.as_slice());
@@ -111,7 +111,7 @@ fn append_unpacked(
 ) -> Result<(), SetError>
     requires set { IsSet (ids set.now ++ more.now) }
     requires room { room.old.items ≡ [] }
-    ensures { Appends (text (ids set.now ++ more.now)) result out.old out.new }
+    ensures { Appends (encoding (ids set.now ++ more.now)) result out.old out.new }
 {
     unpack_with(set, 0, more, room)?;
     append_set(room.as_slice(), out)

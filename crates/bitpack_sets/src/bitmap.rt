@@ -2,6 +2,6 @@
 
 pub(crate) mod combining;
 pub(crate) mod loading;
-pub(crate) mod marking;
 pub(crate) mod ones;
+pub(crate) mod single_bits;
 pub(crate) mod unpacking;

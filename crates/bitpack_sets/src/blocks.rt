@@ -9,7 +9,7 @@ ghost use Rattle.bitpack_sets.specs.Operations.{those};
 ghost use Rattle.bitpack_sets.specs.Props.{slices_prop};
 ghost use Rattle.bitpack_sets.specs.Slices.{AreSlices, slice_len, slices_len};
 
-use crate::bitmap::marking::{counts_before, rank_of_bit, slice_bits, test_bit};
+use crate::bitmap::single_bits::{counts_before, rank_of_bit, slice_bits, test_bit};
 use crate::slice::{Slice, byte_len};
 use bitpacking_register::Register;
 use std::simd::prelude::*;

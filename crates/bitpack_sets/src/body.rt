@@ -5,7 +5,7 @@ pub(crate) mod mixing;
 ghost use Rattle.std.specs.Prelude.{◌+◌, ◌*◌, ◌%◌, ◌^◌, ◌<◌, ◌≤◌, length, map};
 ghost use Rattle.std.specs.List.{filter};
 ghost use Rattle.bitpack_sets.specs.Follows.{Follow};
-ghost use Rattle.bitpack_sets.specs.Lists.{OfKey, body_lows, keeps, listed_ids};
+ghost use Rattle.bitpack_sets.specs.Lists.{OfKey, body_lows, listed_ids, retains};
 ghost use Rattle.bitpack_sets.specs.Operations.{combined};
 ghost use Rattle.bitpack_sets.specs.Slices.{IsBlocks, block_numbers};
 
@@ -99,6 +99,8 @@ fn combine_blocks(
 }
 
 /// Writes them for two bodies of blocks.
+// Not inlined: with this code in it, a caller takes longer to look up the ids of a list.
+#[inline(never)]
 fn combine_slices(
     operation: Operation,
     key: u32,
@@ -129,7 +131,7 @@ fn combine_slices(
 fn look_up(list: &Listed, body: &[u8], there: bool, out: &mut [u32], at: usize) -> usize
     requires start { at ≤ 2 ^ 32 }
     requires body { IsBlocks (length (block_numbers body.now)) body.now }
-    ensures { Follow (filter (keeps there (block_numbers body.now)) (listed_ids list.now)) out.old out.new at result }
+    ensures { Follow (filter (retains there (block_numbers body.now)) (listed_ids list.now)) out.old out.new at result }
 {
     let mut starts = [0; 257];
     filter(list, &Blocks::new(body, &mut starts), there, out, at)
@@ -154,6 +156,6 @@ fn mix_list(
     let mut starts = [0; 257];
     let blocks = Blocks::new(body, &mut starts);
     let mut words = [0; 1024];
-    let highs = list.mark(&mut words);
+    let highs = list.set_bits(&mut words);
     mix(operation, &blocks, &highs, &words, key * 65536, out, at)
 }

@@ -35,8 +35,8 @@ pub(crate) struct Chunks<'a> {
 
 impl<'a> Chunks<'a> {
     ghost use Rattle.std.specs.Prelude.{ℕ, ◌+◌, ◌*◌, ◌/◌, ◌%◌, ◌<◌, ◌==◌, IfSome, false, length, slice_index};
-    ghost use Rattle.bitpack_sets.specs.Bitmaps.{Holds, has_bit, has_high};
-    ghost use Rattle.bitpack_sets.specs.Chunks.{AreBetween, first_key, ids_from, lows_between, places};
+    ghost use Rattle.bitpack_sets.specs.Bitmaps.{Represents, has_bit, has_high};
+    ghost use Rattle.bitpack_sets.specs.Chunks.{AreBetween, first_key, ids_from, lows_between, positions};
     ghost use Rattle.bitpack_sets.specs.Directory.{chunk_ids, count_at};
     ghost use Rattle.bitpack_sets.specs.Lists.{OfKey, body_lows, listed_ids};
     ghost use Rattle.bitpack_sets.specs.Pairs.{IsSpan};
@@ -66,7 +66,7 @@ impl<'a> Chunks<'a> {
     /// The position after the last.
     #[inline(always)]
     fn len(&self) -> usize
-        ensures { result ≡ places self.now }
+        ensures { result ≡ positions self.now }
     {
         if self.count == 0 {
             self.rest.len() / 4
@@ -77,33 +77,33 @@ impl<'a> Chunks<'a> {
 
     /// The key of the first id from a position on, `NO_KEY` if there is none.
     #[inline(always)]
-    pub(crate) fn key(&self, place: usize) -> u32
-        ensures first { result ≡ first_key (ids_from self.now place) }
+    pub(crate) fn key(&self, position: usize) -> u32
+        ensures first { result ≡ first_key (ids_from self.now position) }
         ensures most { result ≤ NO_KEY }
-        ensures none { (x : ℕ) → x / 65536 < result → has x (ids_from self.now place) ≡ false }
+        ensures none { (x : ℕ) → x / 65536 < result → has x (ids_from self.now position) ≡ false }
     {
-        if place >= self.len() {
+        if position >= self.len() {
             NO_KEY
         } else if self.count == 0 {
-            id_at(self.rest, place) >> 16
+            id_at(self.rest, position) >> 16
         } else {
-            key_at(self.count, self.rest, place) as u32
+            key_at(self.count, self.rest, position) as u32
         }
     }
 
     /// The first position from one on whose id has this key or a higher one, by halves.
-    pub(crate) fn seek(&self, place: usize, key: u32) -> usize
-        requires within { place ≤ places self.now }
+    pub(crate) fn seek(&self, position: usize, key: u32) -> usize
+        requires within { position ≤ positions self.now }
         requires key { key ≤ NO_KEY }
-        ensures within { result ≤ places self.now }
-        ensures later { place ≤ result }
-        ensures lower { (p : ℕ) → place ≤ p → p < result → first_key (ids_from self.now p) < key }
+        ensures within { result ≤ positions self.now }
+        ensures later { position ≤ result }
+        ensures lower { (p : ℕ) → position ≤ p → p < result → first_key (ids_from self.now p) < key }
         ensures reached { key ≤ first_key (ids_from self.now result) }
         // It passes over only ids of lower keys.
-        ensures ids { (x : ℕ) → key * 65536 ≤ x → has x (ids_from self.now place) ≡ has x (ids_from self.now result) }
+        ensures ids { (x : ℕ) → key * 65536 ≤ x → has x (ids_from self.now position) ≡ has x (ids_from self.now result) }
     {
-        let mut low = place;
-        let mut left = self.len() - place;
+        let mut low = position;
+        let mut left = self.len() - position;
         while left > 0 {
             let half = left / 2;
             if self.key(low + half) < key {
@@ -117,93 +117,99 @@ impl<'a> Chunks<'a> {
     }
 
     /// The position after the ids of a key that begin at a position: this position, if its id has another key.
-    pub(crate) fn end(&self, place: usize, key: u32) -> usize
-        requires within { place ≤ places self.now }
+    pub(crate) fn end(&self, position: usize, key: u32) -> usize
+        requires within { position ≤ positions self.now }
         requires key { key < NO_KEY }
-        requires least { key ≤ first_key (ids_from self.now place) }
-        ensures within { result ≤ places self.now }
-        ensures later { place ≤ result }
-        ensures one { self.now.count ≢ 0 → result ≤ place + 1 }
+        requires least { key ≤ first_key (ids_from self.now position) }
+        ensures within { result ≤ positions self.now }
+        ensures later { position ≤ result }
+        ensures one { self.now.count ≢ 0 → result ≤ position + 1 }
         ensures passed { key < first_key (ids_from self.now result) }
         ensures none { (x : ℕ) → x / 65536 ≤ key → has x (ids_from self.now result) ≡ false }
-        ensures shared { self.now.count ≡ 0 → (k : ℕ) → place ≤ k → k < result → slice_index (quads_of self.now.rest.now) k / 65536 ≡ key }
-        ensures own { (x : ℕ) → x / 65536 ≡ key → has x (ids_from self.now place) ≡ has (x % 65536) (lows_between self.now place result) }
-        ensures others { (x : ℕ) → key < x / 65536 → has x (ids_from self.now place) ≡ has x (ids_from self.now result) }
+        ensures shared { self.now.count ≡ 0 → (k : ℕ) → position ≤ k → k < result → slice_index (quads_of self.now.rest.now) k / 65536 ≡ key }
+        ensures own { (x : ℕ) → x / 65536 ≡ key → has x (ids_from self.now position) ≡ has (x % 65536) (lows_between self.now position result) }
+        ensures others { (x : ℕ) → key < x / 65536 → has x (ids_from self.now position) ≡ has x (ids_from self.now result) }
     {
-        if self.key(place) != key {
-            place
+        if self.key(position) != key {
+            position
         } else if self.count == 0 {
-            self.seek(place, key + 1)
+            self.seek(position, key + 1)
         } else {
-            place + 1
+            position + 1
         }
     }
 
     /// Whether the set has an id, if the ids of its key are between two positions.
-    pub(crate) fn has_between(&self, place: usize, end: usize, id: u32) -> bool
-        requires { AreBetween self.now (id / 65536) place end }
+    pub(crate) fn has_between(&self, position: usize, end: usize, id: u32) -> bool
+        requires { AreBetween self.now (id / 65536) position end }
         ensures { result ≡ has id (ids_from self.now 0) }
     {
-        if place == end {
+        if position == end {
             return false;
         }
         if self.count == 0 {
-            return in_array(&self.rest[4 * place..4 * end], id);
+            return in_array(&self.rest[4 * position..4 * end], id);
         }
-        in_chunk(self.ids, self.count, self.rest, place, (id % 65536) as u16)
+        in_chunk(
+            self.ids,
+            self.count,
+            self.rest,
+            position,
+            (id % 65536) as u16,
+        )
     }
 
     /// The high bytes of the low 16 bits of the ids between two positions, which share a key.
-    pub(crate) fn highs(&self, place: usize, end: usize) -> [u64; 4]
-        requires within { (place ≤ end) × (end ≤ places self.now) }
-        requires one { self.now.count ≢ 0 → end ≤ place + 1 }
-        ensures { (h : ℕ) → h < 256 → has_bit result h ≡ has_high h (lows_between self.now place end) }
+    pub(crate) fn highs(&self, position: usize, end: usize) -> [u64; 4]
+        requires within { (position ≤ end) × (end ≤ positions self.now) }
+        requires one { self.now.count ≢ 0 → end ≤ position + 1 }
+        ensures { (h : ℕ) → h < 256 → has_bit result h ≡ has_high h (lows_between self.now position end) }
     {
-        if place == end {
+        if position == end {
             return [0; 4];
         }
         if self.count == 0 {
-            return integer_highs(4, &self.rest[4 * place..4 * end]);
+            return integer_highs(4, &self.rest[4 * position..4 * end]);
         }
-        let body = body_of(self.ids, self.count, self.rest, place);
-        if self.is_numbers(place, body) {
+        let body = body_of(self.ids, self.count, self.rest, position);
+        if self.is_numbers(position, body) {
             return integer_highs(2, body);
         }
         block_highs(body)
     }
 
     /// Loads the low 16 bits of the ids between two positions, which share a key, if they have these high bytes.
-    pub(crate) fn load(&self, place: usize, end: usize, highs: &[u32], words: &mut [u64; 1024])
-        requires within { (place ≤ end) × (end ≤ places self.now) }
-        requires one { self.now.count ≢ 0 → end ≤ place + 1 }
+    pub(crate) fn load(&self, position: usize, end: usize, highs: &[u32], words: &mut [u64; 1024])
+        requires within { (position ≤ end) × (end ≤ positions self.now) }
+        requires one { self.now.count ≢ 0 → end ≤ position + 1 }
         requires highs { IsRising 0 256 highs.now }
-        ensures { Holds highs.now words.new (lows_between self.now place end) }
+        ensures { Represents highs.now words.new (lows_between self.now position end) }
     {
-        if place == end {
+        if position == end {
             clear(highs, words);
         } else if self.count == 0 {
-            load_integers(4, &self.rest[4 * place..4 * end], highs, words);
+            load_integers(4, &self.rest[4 * position..4 * end], highs, words);
         } else {
-            self.load_body(place, highs, words);
+            self.load_body(position, highs, words);
         }
     }
 
     /// The ids between two positions, which have this key.
     #[inline(always)]
-    pub(crate) fn body(&self, key: u32, place: usize, end: usize) -> Body<'a>
+    pub(crate) fn body(&self, key: u32, position: usize, end: usize) -> Body<'a>
         requires key { key < NO_KEY }
-        requires span { IsSpan self.now key place end }
+        requires span { IsSpan self.now key position end }
         ensures key { OfKey key result }
-        ensures lows { body_lows result ≡ lows_between self.now place end }
+        ensures lows { body_lows result ≡ lows_between self.now position end }
     {
-        if place == end {
+        if position == end {
             return Body::Ids(Listed::ids(&[]));
         }
         if self.count == 0 {
-            return Body::Ids(Listed::ids(&self.rest[4 * place..4 * end]));
+            return Body::Ids(Listed::ids(&self.rest[4 * position..4 * end]));
         }
-        let body = body_of(self.ids, self.count, self.rest, place);
-        if self.is_numbers(place, body) {
+        let body = body_of(self.ids, self.count, self.rest, position);
+        if self.is_numbers(position, body) {
             Body::Ids(Listed::numbers(key * 65536, body))
         } else {
             Body::Blocks(body)
@@ -226,7 +232,7 @@ impl<'a> Chunks<'a> {
         requires chunks { self.now.count ≢ 0 }
         requires within { chunk < self.now.count }
         requires highs { IsRising 0 256 highs.now }
-        ensures { Holds highs.now words.new (lows_between self.now chunk (chunk + 1)) }
+        ensures { Represents highs.now words.new (lows_between self.now chunk (chunk + 1)) }
     {
         let body = body_of(self.ids, self.count, self.rest, chunk);
         if self.is_numbers(chunk, body) {

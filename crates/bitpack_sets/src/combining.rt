@@ -27,7 +27,7 @@ pub fn combine(
     ensures memory { IfErr result (λ e. e ≡ SetError.Memory) }
     ensures room { OnErr result (vec_capacity out.old < vec_len out.old + length (answer operation (ids a.now) (ids b.now))) }
     ensures unchanged { OnErr result (out.new.items ≡ out.old.items) }
-    ensures kept { OnErr result (vec_capacity out.new ≡ vec_capacity out.old) }
+    ensures capacity { OnErr result (vec_capacity out.new ≡ vec_capacity out.old) }
 {
     let count = combine_count(operation, a, b);
     append_combined(operation, a, b, count, out)
@@ -46,7 +46,7 @@ pub(crate) fn append_combined(
     ensures memory { IfErr result (λ e. e ≡ SetError.Memory) }
     ensures room { OnErr result (vec_capacity out.old < vec_len out.old + length (answer operation (ids a.now) (ids b.now))) }
     ensures unchanged { OnErr result (out.new.items ≡ out.old.items) }
-    ensures kept { OnErr result (vec_capacity out.new ≡ vec_capacity out.old) }
+    ensures capacity { OnErr result (vec_capacity out.new ≡ vec_capacity out.old) }
 {
     let from = out.len();
     if out.reserve(count).is_err() {

@@ -10,7 +10,7 @@ use crate::chunks::NO_KEY;
 use crate::combining::{combine_count, combine_to};
 use crate::folding::{KEYS, combine_keys};
 use crate::id_set::IdSet;
-use crate::in_place::keep;
+use crate::in_place::retain_if;
 use crate::operation::Operation;
 use crate::set_error::SetError;
 
@@ -53,7 +53,7 @@ pub fn combine_all_count<S: AsSet>(operation: Operation, sets: &[S]) -> u64
     if sets.len() == 2 {
         return combine_count(operation, &sets[0].as_set(), &sets[1].as_set()) as u64;
     }
-    if operation.keeps_right() {
+    if operation.retains_right() {
         return fold_count(operation, sets);
     }
     match count_ids(operation, sets) {
@@ -130,7 +130,7 @@ fn intersect_to<S: AsSet>(sets: &[S], a: usize, b: usize, out: &mut [u32]) -> Op
     let mut count = combine_to(Operation::And, &sets[a].as_set(), &sets[b].as_set(), out).ok()?;
     for i in 0..sets.len() {
         if i != a && i != b {
-            count = keep(&mut out[..count], &sets[i].as_set(), true);
+            count = retain_if(&mut out[..count], &sets[i].as_set(), true);
         }
     }
     Some(count)
@@ -146,7 +146,7 @@ fn subtract_to<S: AsSet>(sets: &[S], out: &mut [u32]) -> Option<usize>
     let first = sets[0].as_set();
     let mut count = combine_to(Operation::AndNot, &first, &sets[1].as_set(), out).ok()?;
     for i in 2..sets.len() {
-        count = keep(&mut out[..count], &sets[i].as_set(), false);
+        count = retain_if(&mut out[..count], &sets[i].as_set(), false);
     }
     Some(count)
 }

@@ -3,7 +3,7 @@
 ghost use Rattle.std.specs.Prelude.{◌≡◌, ◌+◌, ◌<◌, ◌++◌, [], Err, IfErr, MatchOption, OnErr, OnOk, vec_capacity, vec_len};
 ghost use Rattle.bitpack_sets.specs.Opened.{ids};
 ghost use Rattle.bitpack_sets.specs.Operations.{answer};
-ghost use Rattle.bitpack_sets.specs.Sets.{IsSet, text};
+ghost use Rattle.bitpack_sets.specs.Sets.{IsSet, encoding};
 ghost use Rattle.bitpack_sets.specs.Written.{refusal};
 
 use crate::combining::{append_combined, combine_count};
@@ -26,12 +26,12 @@ pub fn combine_set(
     out: &mut Vec<u8>,
 ) -> Result<(), SetError>
     ensures set { OnOk result (IsSet (answer operation (ids a.now) (ids b.now))) }
-    ensures ok { OnOk result (out.new.items ≡ out.old.items ++ text (answer operation (ids a.now) (ids b.now))) }
+    ensures ok { OnOk result (out.new.items ≡ out.old.items ++ encoding (answer operation (ids a.now) (ids b.now))) }
     ensures fault { MatchOption (refusal (answer operation (ids a.now) (ids b.now))) (IfErr result (λ e. e ≡ SetError.Memory)) (λ fault. result ≡ Err fault) }
     // For an answer of no ids only the vector needs memory.
     ensures room { answer operation (ids a.now) (ids b.now) ≡ [] → OnErr result (vec_capacity out.old < vec_len out.old + 1) }
     ensures unchanged { OnErr result (out.new.items ≡ out.old.items) }
-    ensures kept { OnErr result (vec_capacity out.new ≡ vec_capacity out.old) }
+    ensures capacity { OnErr result (vec_capacity out.new ≡ vec_capacity out.old) }
 {
     let count = combine_count(operation, a, b);
     if count > LONGEST_SET {

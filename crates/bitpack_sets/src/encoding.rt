@@ -1,7 +1,7 @@
 //! From ids to bytes: the encoding of a set is measured, and then written.
 
 ghost use Rattle.std.specs.Prelude.{◌≡◌, ◌+◌, ◌<◌, ◌≤◌, ◌++◌, IfErr, OnErr, OnOk, length, replicate, vec_len, vec_capacity};
-ghost use Rattle.bitpack_sets.specs.Sets.{IsSet, text};
+ghost use Rattle.bitpack_sets.specs.Sets.{IsSet, encoding};
 ghost use Rattle.bitpack_sets.specs.Written.{AppendsSet, IsMeasured, MeasuresSet, WritesSet};
 
 mod bodies;
@@ -65,11 +65,11 @@ pub fn encode(ids: &[u32], out: &mut Vec<u8>) -> Result<(), SetError>
 /// Appends the encoding of a set. The vector grows at most once.
 pub(crate) fn append_set(ids: &[u32], out: &mut Vec<u8>) -> Result<(), SetError>
     requires { IsSet ids.now }
-    ensures ok { OnOk result (out.new.items ≡ out.old.items ++ text ids.now) }
+    ensures ok { OnOk result (out.new.items ≡ out.old.items ++ encoding ids.now) }
     ensures memory { IfErr result (λ e. e ≡ SetError.Memory) }
-    ensures room { OnErr result (vec_capacity out.old < vec_len out.old + length (text ids.now)) }
+    ensures room { OnErr result (vec_capacity out.old < vec_len out.old + length (encoding ids.now)) }
     ensures unchanged { OnErr result (out.new.items ≡ out.old.items) }
-    ensures kept { OnErr result (vec_capacity out.new ≡ vec_capacity out.old) }
+    ensures capacity { OnErr result (vec_capacity out.new ≡ vec_capacity out.old) }
 {
     let measured = measure(ids);
     let len = measured.len;
@@ -129,8 +129,8 @@ fn measure(ids: &[u32]) -> Measured
 fn write_set(ids: &[u32], measured: Measured, out: &mut [u8])
     requires set { IsSet ids.now }
     requires measured { IsMeasured ids.now measured.len measured.chunks measured.bodies }
-    requires size { length out.old ≡ length (text ids.now) }
-    ensures { out.new ≡ text ids.now }
+    requires size { length out.old ≡ length (encoding ids.now) }
+    ensures { out.new ≡ encoding ids.now }
 {
     if ids.len() <= MOST_FEW {
         write_few(ids, out);

@@ -90,7 +90,7 @@ pub(crate) fn in_few(count: usize, bytes: &[u8], id: u32) -> bool
     let mut ids = [0; MOST_FEW];
     let ids = &mut ids[..count];
     unpack_few(bytes, ids);
-    is_among(ids, id)
+    is_member(ids, id)
 }
 
 /// How many ids of such a set are below `id`.
@@ -119,7 +119,7 @@ pub(crate) fn select_in_few(count: usize, bytes: &[u8], position: usize) -> u32
 }
 
 /// Whether an id is among some.
-fn is_among(ids: &[u32], id: u32) -> bool
+fn is_member(ids: &[u32], id: u32) -> bool
     ensures { result ≡ has id ids.now }
 {
     for other in ids {

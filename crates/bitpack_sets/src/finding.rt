@@ -5,10 +5,10 @@ ghost use Rattle.std.specs.List.{range_with_len};
 ghost use Rattle.bitpack_sets.specs.Chunks.{AreBetween, Knows, ids_from};
 ghost use Rattle.bitpack_sets.specs.Reads.{has};
 
-use crate::bitmap::marking::test_bit;
+use crate::bitmap::single_bits::test_bit;
 use crate::blocks::Blocks;
 use crate::chunks::Chunks;
-use crate::listed::filtering::is_among;
+use crate::listed::filtering::is_member;
 
 /// The ids of a key.
 #[derive(Clone, Copy)]
@@ -30,8 +30,8 @@ impl<'a> Own<'a> {
     {
         let low = (id % 65536) as usize;
         match self {
-            Own::Between(place, end) => set.has_between(place, end, id),
-            Own::Blocks(blocks) => is_among(&blocks, low),
+            Own::Between(position, end) => set.has_between(position, end, id),
+            Own::Blocks(blocks) => is_member(&blocks, low),
             Own::Bits(words) => test_bit(words, low),
         }
     }
@@ -42,8 +42,8 @@ pub(crate) fn span(set: &Chunks, key: u32) -> (usize, usize)
     requires { key < 65536 }
     ensures { AreBetween set.now key result.0 result.1 }
 {
-    let place = set.seek(0, key);
-    (place, set.end(place, key))
+    let position = set.seek(0, key);
+    (position, set.end(position, key))
 }
 
 /// Loads the bitmap of the ids of a key.
@@ -51,8 +51,8 @@ pub(crate) fn load<'a>(set: &Chunks, key: u32, words: &'a mut [u64; 1024]) -> Ow
     requires { key < 65536 }
     ensures { Knows set.now key result }
 {
-    let (place, end) = span(set, key);
-    set.load(place, end, &all_highs(), words);
+    let (position, end) = span(set, key);
+    set.load(position, end, &all_highs(), words);
     Own::Bits(words)
 }
 

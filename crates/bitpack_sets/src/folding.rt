@@ -2,17 +2,17 @@
 
 ghost use Rattle.std.specs.Prelude.{◌≡◌, ◌≢◌, ℕ, ◌+◌, ◌*◌, ◌/◌, ◌%◌, ◌<◌, ◌≤◌, ◌&&◌, ◌||◌, ◌==◌, false, true, length, map};
 ghost use Rattle.bitpack_sets.specs.Bitmaps.{has_bit};
-ghost use Rattle.bitpack_sets.specs.Chunks.{lows_between, places};
-ghost use Rattle.bitpack_sets.specs.Folds.{found, high_of, joined, marked, swapped};
+ghost use Rattle.bitpack_sets.specs.Chunks.{lows_between, positions};
+ghost use Rattle.bitpack_sets.specs.Folds.{found, has_number, high_of, joined, swapped};
 ghost use Rattle.bitpack_sets.specs.Opened.{ids};
-ghost use Rattle.bitpack_sets.specs.Operations.{folded, holds};
+ghost use Rattle.bitpack_sets.specs.Operations.{apply, folded};
 ghost use Rattle.bitpack_sets.specs.Reads.{has};
 ghost use Rattle.bitpack_sets.specs.Sets.{IsRising};
 
 use crate::as_set::AsSet;
 use crate::bitmap::combining::combine;
 use crate::bitmap::loading::clear;
-use crate::bitmap::marking::{set_bit, test_bit};
+use crate::bitmap::single_bits::{set_bit, test_bit};
 use crate::bitmap::unpacking::unpack_bits;
 use crate::chunks::{Chunks, NO_KEY};
 use crate::few::MOST_FEW;
@@ -65,17 +65,17 @@ fn add(
     requires base { base + 8 ≤ 65536 }
     ensures later { base + 8 ≤ result }
     ensures most { result ≤ 65536 }
-    ensures own { (i : ℕ) → i < 524288 → found highs.new words.new i ≡ holds operation (found highs.old words.old i) (has (base * 65536 + i) (ids set.now)) }
+    ensures own { (i : ℕ) → i < 524288 → found highs.new words.new i ≡ apply operation (found highs.old words.old i) (has (base * 65536 + i) (ids set.now)) }
     ensures none { (x : ℕ) → base + 8 ≤ x / 65536 → x / 65536 < result → has x (ids set.now) ≡ false }
 {
     match operation {
-        Operation::Or if set.len() <= MOST_FEW => mark_few(set, base, highs, words, others),
+        Operation::Or if set.len() <= MOST_FEW => insert_few(set, base, highs, words, others),
         _ => add_chunks(operation, false, set, base, highs, words, others),
     }
 }
 
 /// Adds the ids of a set of few ids that have one of the keys from `base` on. Returns the next key of the set.
-fn mark_few(
+fn insert_few(
     set: &IdSet,
     base: u32,
     highs: &mut [[u64; 4]; KEYS],
@@ -99,7 +99,7 @@ fn mark_few(
         }
         if key >= base {
             let k = (key - base) as usize;
-            mark(&mut highs[k], &mut words[k], (id % 65536) as usize, others);
+            insert(&mut highs[k], &mut words[k], (id % 65536) as usize, others);
         }
     }
     NO_KEY
@@ -123,25 +123,27 @@ fn add_chunks(
 {
     let mut room = [0; ROOM];
     let chunks = set.chunks(&mut room);
-    let mut place = chunks.seek(0, base);
+    let mut position = chunks.seek(0, base);
     for k in 0..KEYS {
-        let end = chunks.end(place, base + k as u32);
+        let end = chunks.end(position, base + k as u32);
         let (own_highs, own_words) = (&mut highs[k], &mut words[k]);
         if takes {
-            take_chunk(&chunks, place, end, own_highs, own_words);
+            take_chunk(&chunks, position, end, own_highs, own_words);
         } else {
-            add_chunk(operation, &chunks, place, end, own_highs, own_words, others);
+            add_chunk(
+                operation, &chunks, position, end, own_highs, own_words, others,
+            );
         }
-        place = end;
+        position = end;
     }
-    chunks.key(place)
+    chunks.key(position)
 }
 
 /// Adds a number.
 #[inline(always)]
-fn mark(highs: &mut [u64; 4], words: &mut [u64; 1024], low: usize, others: &mut [u64; 1024])
+fn insert(highs: &mut [u64; 4], words: &mut [u64; 1024], low: usize, others: &mut [u64; 1024])
     requires { low < 65536 }
-    ensures { (x : ℕ) → x < 65536 → marked highs.new words.new x ≡ (marked highs.old words.old x || (x == low)) }
+    ensures { (x : ℕ) → x < 65536 → has_number highs.new words.new x ≡ (has_number highs.old words.old x || (x == low)) }
 {
     if !test_bit(highs, low / 256) {
         clear_highs(&[(low / 256) as u32], words, others);
@@ -151,41 +153,47 @@ fn mark(highs: &mut [u64; 4], words: &mut [u64; 1024], low: usize, others: &mut 
 }
 
 /// Takes the ids of a set between two positions, which share a key.
-fn take_chunk(set: &Chunks, place: usize, end: usize, highs: &mut [u64; 4], words: &mut [u64; 1024])
-    requires within { (place ≤ end) × (end ≤ places set.now) }
-    requires one { set.now.count ≢ 0 → end ≤ place + 1 }
-    ensures { (x : ℕ) → x < 65536 → marked highs.new words.new x ≡ has x (lows_between set.now place end) }
+fn take_chunk(
+    set: &Chunks,
+    position: usize,
+    end: usize,
+    highs: &mut [u64; 4],
+    words: &mut [u64; 1024],
+)
+    requires within { (position ≤ end) × (end ≤ positions set.now) }
+    requires one { set.now.count ≢ 0 → end ≤ position + 1 }
+    ensures { (x : ℕ) → x < 65536 → has_number highs.new words.new x ≡ has x (lows_between set.now position end) }
 {
     let mut own = [0; 256];
-    *highs = set.highs(place, end);
+    *highs = set.highs(position, end);
     let count = unpack_bits(highs, 0, &mut own, 0);
-    set.load(place, end, &own[..count], words);
+    set.load(position, end, &own[..count], words);
 }
 
 /// Combines numbers with the ids of a set between two positions, which share a key.
 fn add_chunk(
     operation: Operation,
     set: &Chunks,
-    place: usize,
+    position: usize,
     end: usize,
     highs: &mut [u64; 4],
     words: &mut [u64; 1024],
     others: &mut [u64; 1024],
 )
-    requires within { (place ≤ end) × (end ≤ places set.now) }
-    requires one { set.now.count ≢ 0 → end ≤ place + 1 }
-    ensures { (x : ℕ) → x < 65536 → marked highs.new words.new x
-        ≡ holds operation (marked highs.old words.old x) (has x (lows_between set.now place end)) }
+    requires within { (position ≤ end) × (end ≤ positions set.now) }
+    requires one { set.now.count ≢ 0 → end ≤ position + 1 }
+    ensures { (x : ℕ) → x < 65536 → has_number highs.new words.new x
+        ≡ apply operation (has_number highs.old words.old x) (has x (lows_between set.now position end)) }
 {
-    let own = set.highs(place, end);
-    if operation.keeps_right() {
+    let own = set.highs(position, end);
+    if operation.retains_right() {
         let mut fresh = [0; 256];
         let count = unpack_bits(&Operation::AndNot.words(own, *highs), 0, &mut fresh, 0);
         clear_highs(&fresh[..count], words, others);
-        combine_words(operation, set, place, end, &own, words, others);
+        combine_words(operation, set, position, end, &own, words, others);
     } else {
         let shared = Operation::And.words(*highs, own);
-        combine_words(operation, set, place, end, &shared, words, others);
+        combine_words(operation, set, position, end, &shared, words, others);
     }
     *highs = next_highs(operation, highs, &own);
 }
@@ -195,16 +203,16 @@ fn add_chunk(
 fn combine_words(
     operation: Operation,
     set: &Chunks,
-    place: usize,
+    position: usize,
     end: usize,
     own: &[u64; 4],
     words: &mut [u64; 1024],
     others: &mut [u64; 1024],
 )
-    requires within { (place ≤ end) × (end ≤ places set.now) }
-    requires one { set.now.count ≢ 0 → end ≤ place + 1 }
+    requires within { (position ≤ end) × (end ≤ positions set.now) }
+    requires one { set.now.count ≢ 0 → end ≤ position + 1 }
     ensures own { (x : ℕ) → x < 65536 → has_bit own.now (x / 256) ≡ true
-        → has_bit words.new x ≡ holds operation (has_bit words.old x) (has x (lows_between set.now place end)) }
+        → has_bit words.new x ≡ apply operation (has_bit words.old x) (has x (lows_between set.now position end)) }
     ensures rest { (x : ℕ) → x < 65536 → has_bit own.now (x / 256) ≡ false → has_bit words.new x ≡ has_bit words.old x }
 {
     let mut highs = [0; 256];
@@ -213,7 +221,7 @@ fn combine_words(
         return;
     }
     let highs = &highs[..count];
-    set.load(place, end, highs, others);
+    set.load(position, end, highs, others);
     combine(operation, highs, words, others);
 }
 

@@ -12,7 +12,7 @@ use crate::few::{
     MOST_FEW, in_few, rank_in_few, select_in_few, unpack_few, unpack_few_bytes, unpack_few_from,
 };
 use crate::ids::Ids;
-use crate::opening::{Parts, read_parts, test_text};
+use crate::opening::{Parts, read_parts, test_encoding};
 use crate::reserved::append_zeros;
 use crate::searching::{in_chunks, rank_in_chunks, select_in_chunks};
 use crate::set_error::SetError;
@@ -38,21 +38,21 @@ impl<'a> IdSet<'a> {
     ghost use Rattle.bitpack_sets.specs.Errors.{Finds};
     ghost use Rattle.bitpack_sets.specs.Faults.{fault};
     ghost use Rattle.bitpack_sets.specs.Fronts.{IsFront, front_ids};
-    ghost use Rattle.bitpack_sets.specs.Opened.{ids, text_of};
+    ghost use Rattle.bitpack_sets.specs.Opened.{encoding_of, ids};
     ghost use Rattle.bitpack_sets.specs.Reads.{has, rank};
-    ghost use Rattle.bitpack_sets.specs.Rooms.{HoldsFew};
-    ghost use Rattle.bitpack_sets.specs.Sets.{IsSet, text};
+    ghost use Rattle.bitpack_sets.specs.Rooms.{StoresFew};
+    ghost use Rattle.bitpack_sets.specs.Sets.{IsSet, encoding};
 
     /// Opens an encoded set. Tests all bytes, accepts any, and allocates nothing.
     pub fn open(bytes: &'a [u8]) -> Result<IdSet<'a>, SetError>
         // Bytes with a fault are refused for the first, and bytes without one are opened.
         ensures fault { Finds result (fault bytes.now) }
-        ensures bytes { IfOk result (λ set. text_of set ≡ bytes.now) }
+        ensures bytes { IfOk result (λ set. encoding_of set ≡ bytes.now) }
         // The bytes are the encoding of these ids.
         ensures set { IfOk result (λ set. IsSet (ids set)) }
-        ensures text { IfOk result (λ set. text (ids set) ≡ bytes.now) }
+        ensures encoding { IfOk result (λ set. encoding (ids set) ≡ bytes.now) }
     {
-        let parts = test_text(bytes)?;
+        let parts = test_encoding(bytes)?;
         Ok(IdSet {
             bytes,
             count: parts.count,
@@ -65,9 +65,9 @@ impl<'a> IdSet<'a> {
     /// opened.
     pub fn of_tested(bytes: &'a [u8]) -> IdSet<'a>
         requires sound { fault bytes.now ≡ None }
-        ensures bytes { text_of result ≡ bytes.now }
+        ensures bytes { encoding_of result ≡ bytes.now }
         ensures set { IsSet (ids result) }
-        ensures text { text (ids result) ≡ bytes.now }
+        ensures encoding { encoding (ids result) ≡ bytes.now }
     {
         IdSet::from_parts(bytes, read_parts(bytes))
     }
@@ -75,9 +75,9 @@ impl<'a> IdSet<'a> {
     /// The set of these bytes, by the parts that [`parts`](IdSet::parts) returned of it. Reads none of the bytes.
     pub fn from_parts(bytes: &'a [u8], parts: Parts<'a>) -> IdSet<'a>
         requires { States bytes.now parts.count parts.chunks parts.rest.now }
-        ensures bytes { text_of result ≡ bytes.now }
+        ensures bytes { encoding_of result ≡ bytes.now }
         ensures set { IsSet (ids result) }
-        ensures text { text (ids result) ≡ bytes.now }
+        ensures encoding { encoding (ids result) ≡ bytes.now }
     {
         IdSet {
             bytes,
@@ -89,7 +89,7 @@ impl<'a> IdSet<'a> {
 
     /// What opening this set found.
     pub fn parts(&self) -> Parts<'a>
-        ensures states { States (text_of self.now) result.count result.chunks result.rest.now }
+        ensures states { States (encoding_of self.now) result.count result.chunks result.rest.now }
         ensures count { result.count ≡ length (ids self.now) }
     {
         Parts {
@@ -215,7 +215,7 @@ impl<'a> IdSet<'a> {
         ensures memory { IfErr result (λ e. e ≡ SetError.Memory) }
         ensures room { OnErr result (vec_capacity out.old < vec_len out.old + length (ids self.now)) }
         ensures unchanged { OnErr result (out.new.items ≡ out.old.items) }
-        ensures kept { OnErr result (vec_capacity out.new ≡ vec_capacity out.old) }
+        ensures capacity { OnErr result (vec_capacity out.new ≡ vec_capacity out.old) }
     {
         let from = out.len();
         let count = self.len();
@@ -251,7 +251,7 @@ impl<'a> IdSet<'a> {
 
     /// Writes the ids of a set of few into its room. Other sets need none.
     pub(crate) fn fill(&self, room: &mut [u8; ROOM])
-        ensures { HoldsFew self.now room.new }
+        ensures { StoresFew self.now room.new }
     {
         let form = self.bytes[0];
         if form != 5 && form != 6 {
@@ -261,7 +261,7 @@ impl<'a> IdSet<'a> {
 
     /// The chunks of the set. Its room was filled before.
     pub(crate) fn filled_chunks<'b>(&'b self, room: &'b [u8; ROOM]) -> Chunks<'b>
-        requires { HoldsFew self.now room.now }
+        requires { StoresFew self.now room.now }
         ensures { ids_from result 0 ≡ ids self.now }
     {
         let form = self.bytes[0];

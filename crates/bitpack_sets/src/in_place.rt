@@ -3,7 +3,7 @@
 ghost use Rattle.std.specs.Prelude.{◌≡◌, ℕ, ◌+◌, ◌/◌, ◌^◌, ◌<◌, ◌≤◌, ◌≢◌, ◌||◌, ◌++◌, true, false, Err, None, IfErr, IfOk, IsOk, MatchOption, OnErr, OnOk, drop, length, not, slice_index, take, vec_capacity};
 ghost use Rattle.std.specs.List.{filter};
 ghost use Rattle.bitpack_sets.specs.Chunks.{Knows, ids_from};
-ghost use Rattle.bitpack_sets.specs.Kept.{IsCounted, Moves, keeps};
+ghost use Rattle.bitpack_sets.specs.Retained.{IsCounted, Moves, retains};
 ghost use Rattle.bitpack_sets.specs.Opened.{ids};
 ghost use Rattle.bitpack_sets.specs.Operations.{those};
 ghost use Rattle.bitpack_sets.specs.Reads.{has};
@@ -28,20 +28,20 @@ const MOST: usize = 511;
 /// With more ids of a key than this, its bitmap is loaded to count them.
 const SOME: usize = 31;
 
-/// Keeps the ids that a set has, in their order. They need not increase. Allocates nothing.
+/// Retains the ids that a set has, in their order. They need not increase. Allocates nothing.
 pub fn retain(values: &mut Vec<u32>, set: &IdSet)
     ensures { values.new.items ≡ filter (λ x. has x (ids set.now)) values.old.items }
 {
-    let kept = keep(values.slice_mut(..), set, true);
-    values.truncate(kept);
+    let retained = retain_if(values.slice_mut(..), set, true);
+    values.truncate(retained);
 }
 
-/// Keeps the ids that a set lacks, in their order. They need not increase. Allocates nothing.
+/// Retains the ids that a set lacks, in their order. They need not increase. Allocates nothing.
 pub fn remove(values: &mut Vec<u32>, set: &IdSet)
     ensures { values.new.items ≡ filter (λ x. not (has x (ids set.now))) values.old.items }
 {
-    let kept = keep(values.slice_mut(..), set, false);
-    values.truncate(kept);
+    let retained = retain_if(values.slice_mut(..), set, false);
+    values.truncate(retained);
 }
 
 /// Adds the ids of a set to ids that increase, so that these are all ids of both, in increasing order and each once.
@@ -139,8 +139,8 @@ fn count_few(values: &[u32], index: usize, count: usize, set: &Chunks) -> (usize
     requires few { count ≤ index }
     ensures { IsCounted (ids_from set.now 0) values.now count index result.0 result.1 }
 {
-    let (place, end) = span(set, values[index] >> 16);
-    count_run(values, index, count, set, Own::Between(place, end))
+    let (position, end) = span(set, values[index] >> 16);
+    count_run(values, index, count, set, Own::Between(position, end))
 }
 
 /// Counts them, when the ids of the key are found.
@@ -221,93 +221,100 @@ fn is_at(values: &[u32], index: usize, id: u32) -> bool
 
 /// Moves the ids that a set has, or those that it lacks, to the front, in their order. They need not increase. Returns how many these are.
 /// Allocates nothing.
-pub fn keep(values: &mut [u32], set: &IdSet, there: bool) -> usize
+pub fn retain_if(values: &mut [u32], set: &IdSet, there: bool) -> usize
     ensures within { result ≤ length values.new }
-    ensures kept { take result values.new ≡ filter (keeps there (ids set.now)) values.old }
+    ensures retained { take result values.new ≡ filter (retains there (ids set.now)) values.old }
 {
     let mut room = [0; ROOM];
     let chunks = set.chunks(&mut room);
-    let mut kept = 0;
+    let mut retained = 0;
     let mut index = 0;
     while index < values.len() {
         let next = if many_from(values, index, MOST) {
-            keep_many(values, index, kept, &chunks, there)
+            retain_many(values, index, retained, &chunks, there)
         } else {
-            keep_few(values, index, kept, &chunks, there)
+            retain_few(values, index, retained, &chunks, there)
         };
-        kept = next.0;
+        retained = next.0;
         index = next.1;
     }
-    kept
+    retained
 }
 
 /// Moves ids that share the key of the one at an index, from it on, by the bitmap of the key. Returns where the moved ones end, and where the
 /// ids of the key end.
 #[inline(never)]
-fn keep_many(
+fn retain_many(
     values: &mut [u32],
     index: usize,
-    kept: usize,
+    retained: usize,
     set: &Chunks,
     there: bool,
 ) -> (usize, usize)
     requires within { index < length values.old }
-    requires behind { kept ≤ index }
-    ensures { Moves there (ids_from set.now 0) values.old values.new kept index result.0 result.1 }
+    requires behind { retained ≤ index }
+    ensures { Moves there (ids_from set.now 0) values.old values.new retained index result.0 result.1 }
 {
     let mut words = [0; 1024];
     let own = load(set, values[index] >> 16, &mut words);
-    keep_run(values, index, kept, set, own, there)
+    retain_run(values, index, retained, set, own, there)
 }
 
 /// Moves them, and looks each up in the body of the key. If these are many, it finds the slices of the body before.
-fn keep_few(
+fn retain_few(
     values: &mut [u32],
     index: usize,
-    kept: usize,
+    retained: usize,
     set: &Chunks,
     there: bool,
 ) -> (usize, usize)
     requires within { index < length values.old }
-    requires behind { kept ≤ index }
-    ensures { Moves there (ids_from set.now 0) values.old values.new kept index result.0 result.1 }
+    requires behind { retained ≤ index }
+    ensures { Moves there (ids_from set.now 0) values.old values.new retained index result.0 result.1 }
 {
     let key = values[index] >> 16;
-    let (place, end) = span(set, key);
+    let (position, end) = span(set, key);
     if many_from(values, index, MANY)
-        && let Body::Blocks(body) = set.body(key, place, end)
+        && let Body::Blocks(body) = set.body(key, position, end)
     {
         let mut starts = [0; 257];
         let own = Own::Blocks(Blocks::new(body, &mut starts));
-        return keep_run(values, index, kept, set, own, there);
+        return retain_run(values, index, retained, set, own, there);
     }
-    keep_run(values, index, kept, set, Own::Between(place, end), there)
+    retain_run(
+        values,
+        index,
+        retained,
+        set,
+        Own::Between(position, end),
+        there,
+    )
 }
 
 /// Moves them, when the ids of the key are found.
 #[inline(always)]
-fn keep_run(
+fn retain_run(
     values: &mut [u32],
     index: usize,
-    kept: usize,
+    retained: usize,
     set: &Chunks,
     own: Own,
     there: bool,
 ) -> (usize, usize)
     requires within { index < length values.old }
-    requires behind { kept ≤ index }
+    requires behind { retained ≤ index }
     requires own { Knows set.now (slice_index values.old index / 65536) own }
-    ensures { Moves there (ids_from set.now 0) values.old values.new kept index result.0 result.1 }
+    ensures { Moves there (ids_from set.now 0) values.old values.new retained index result.0 result.1 }
 {
     let key = values[index] >> 16;
-    let mut kept = kept;
+    let mut retained = retained;
     for i in index..values.len() {
         let id = values[i];
         if id >> 16 != key {
-            return (kept, i);
+            return (retained, i);
         }
-        values[kept] = id;
-        kept += (own.has(set, id) == there) as usize;
+        values[retained] = id;
+        retained += (own.has(set, id) == there) as usize;
     }
-    (kept, values.len())
+    (retained, values.len())
 }

@@ -1,19 +1,19 @@
 //! Laws of the definitions, each the contract of a function that does nothing at run time, for generic code to call.
 //!
-//! The definitions are in `specs/`: `IsSet` and `text` in Sets, `fault` in Faults, `ids_in` in Reads.
+//! The definitions are in `specs/`: `IsSet` and `encoding` in Sets, `fault` in Faults, `ids_in` in Reads.
 
-ghost use Rattle.bitpack_sets.specs.Laws.{IdsAreRead, LongestText, NoFault, OneSet, TextIsRead};
+ghost use Rattle.bitpack_sets.specs.Laws.{EncodingIsRead, IdsAreRead, LongestEncoding, NoFault, OneSet};
 
 /// A set has one encoding, and encoded bytes have one set. Bytes have no fault exactly if they encode a set, which is the one that is
 /// read from them.
-pub fn one_text()
+pub fn one_encoding()
     ensures set { OneSet }
     ensures fault { NoFault }
     ensures read { IdsAreRead }
-    ensures back { TextIsRead }
+    ensures back { EncodingIsRead }
 {}
 
 /// A set of n ids has at most 9 * n / 2 + 10 bytes, rounded down.
-pub fn longest_text()
-    ensures { LongestText }
+pub fn longest_encoding()
+    ensures { LongestEncoding }
 {}

@@ -49,7 +49,7 @@ pub use encoding::order::{first_unsorted, test_pushed};
 pub use encoding::{encode, encode_to, encoded_len};
 pub use id_set::IdSet;
 pub use ids::Ids;
-pub use in_place::{add, add_to, keep, remove, retain};
+pub use in_place::{add, add_to, remove, retain, retain_if};
 pub use opening::Parts;
 pub use operation::Operation;
 pub use query::{Query, query_to};

@@ -11,7 +11,7 @@ ghost use Rattle.bitpack_sets.specs.Sets.{IsRising};
 ghost use Rattle.bitpack_sets.specs.Slices.{integers_of, pairs_of, quads_of};
 
 use crate::array::id_at;
-use crate::bitmap::marking::set_bit;
+use crate::bitmap::single_bits::set_bit;
 use crate::chunk::search::number_at;
 
 /// A list of ids.
@@ -81,7 +81,7 @@ impl<'a> Listed<'a> {
     }
 
     /// Sets the bit of the low 16 bits of each id. Returns bits for their high bytes.
-    pub(crate) fn mark(&self, words: &mut [u64; 1024]) -> [u64; 4]
+    pub(crate) fn set_bits(&self, words: &mut [u64; 1024]) -> [u64; 4]
         requires { (x : ℕ) → has_bit words.old x ≡ false }
         ensures bits { (x : ℕ) → has_bit words.new x ≡ has x (map (λ id. id % 65536) (listed_ids self.now)) }
         ensures highs { (x : ℕ) → has_bit result (x / 256) ≡ false → has x (map (λ id. id % 65536) (listed_ids self.now)) ≡ false }

@@ -35,7 +35,7 @@ pub struct Parts<'a> {
 
 /// Tests all bytes.
 #[tactic(auto, unfolding(crate::specs::Faults::fault))]
-pub(crate) fn test_text<'a>(bytes: &'a [u8]) -> Result<Parts<'a>, SetError>
+pub(crate) fn test_encoding<'a>(bytes: &'a [u8]) -> Result<Parts<'a>, SetError>
     ensures fault { Finds result (fault bytes.now) }
     ensures states { IfOk result (λ parts. States bytes.now parts.count parts.chunks parts.rest.now) }
 {

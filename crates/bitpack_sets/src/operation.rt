@@ -18,12 +18,12 @@ pub enum Operation {
 }
 
 impl Operation {
-    ghost use Rattle.bitpack_sets.specs.Operations.{holds};
+    ghost use Rattle.bitpack_sets.specs.Operations.{apply};
 
     /// Combines the bits of two words.
     #[inline(always)]
     pub(crate) fn word(self, a: u64, b: u64) -> u64
-        ensures { (i : ℕ) → (bit_at result i == 1) ≡ holds self (bit_at a i == 1) (bit_at b i == 1) }
+        ensures { (i : ℕ) → (bit_at result i == 1) ≡ apply self (bit_at a i == 1) (bit_at b i == 1) }
     {
         match self {
             Operation::And => a & b,
@@ -36,7 +36,7 @@ impl Operation {
     /// Combines 256 bits.
     #[inline(always)]
     pub(crate) fn words(self, a: [u64; 4], b: [u64; 4]) -> [u64; 4]
-        ensures { (i : ℕ) → i < 256 → has_bit result i ≡ holds self (has_bit a i) (has_bit b i) }
+        ensures { (i : ℕ) → i < 256 → has_bit result i ≡ apply self (has_bit a i) (has_bit b i) }
     {
         [
             self.word(a[0], b[0]),
@@ -48,8 +48,8 @@ impl Operation {
 
     /// Whether the answer has ids that only the first set has.
     #[inline(always)]
-    pub(crate) fn keeps_left(self) -> bool
-        ensures { result ≡ holds self true false }
+    pub(crate) fn retains_left(self) -> bool
+        ensures { result ≡ apply self true false }
     {
         match self {
             Operation::And => false,
@@ -59,8 +59,8 @@ impl Operation {
 
     /// Whether the answer has ids that only the second set has.
     #[inline(always)]
-    pub(crate) fn keeps_right(self) -> bool
-        ensures { result ≡ holds self false true }
+    pub(crate) fn retains_right(self) -> bool
+        ensures { result ≡ apply self false true }
     {
         match self {
             Operation::Or => true,
@@ -72,7 +72,7 @@ impl Operation {
     /// A key below which the answer has no id, if one set has none below `a` and the other none below `b`.
     pub(crate) fn key(self, a: u32, b: u32) -> u32
         ensures either { (result ≡ a) ⊎ (result ≡ b) }
-        ensures none { (k : ℕ) (p q : Bool) → k < result → (k < a → p ≡ false) → (k < b → q ≡ false) → holds self p q ≡ false }
+        ensures none { (k : ℕ) (p q : Bool) → k < result → (k < a → p ≡ false) → (k < b → q ≡ false) → apply self p q ≡ false }
     {
         match self {
             Operation::And => a.max(b),
@@ -85,12 +85,12 @@ impl Operation {
     #[inline(always)]
     pub(crate) fn highs(self, a: &[u64; 4], b: &[u64; 4]) -> [u64; 4]
         // The answer has no id of a high byte that is left out.
-        ensures both { (h : ℕ) → h < 256 → has_bit result h ≡ false → holds self (has_bit a.now h) (has_bit b.now h) ≡ false }
-        ensures left { (h : ℕ) → h < 256 → has_bit result h ≡ false → holds self (has_bit a.now h) false ≡ false }
-        ensures right { (h : ℕ) → h < 256 → has_bit result h ≡ false → holds self false (has_bit b.now h) ≡ false }
+        ensures both { (h : ℕ) → h < 256 → has_bit result h ≡ false → apply self (has_bit a.now h) (has_bit b.now h) ≡ false }
+        ensures left { (h : ℕ) → h < 256 → has_bit result h ≡ false → apply self (has_bit a.now h) false ≡ false }
+        ensures right { (h : ℕ) → h < 256 → has_bit result h ≡ false → apply self false (has_bit b.now h) ≡ false }
         // If the answer has no ids that only the second has, the first has all these high bytes. Likewise for the second.
-        ensures in_left { holds self false true ≡ false → (h : ℕ) → h < 256 → has_bit result h ≡ true → has_bit a.now h ≡ true }
-        ensures in_right { holds self true false ≡ false → (h : ℕ) → h < 256 → has_bit result h ≡ true → has_bit b.now h ≡ true }
+        ensures in_left { apply self false true ≡ false → (h : ℕ) → h < 256 → has_bit result h ≡ true → has_bit a.now h ≡ true }
+        ensures in_right { apply self true false ≡ false → (h : ℕ) → h < 256 → has_bit result h ≡ true → has_bit b.now h ≡ true }
     {
         let operation = match self {
             Operation::And => Operation::And,

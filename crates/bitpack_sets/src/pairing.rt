@@ -1,7 +1,7 @@
 //! Walks through two sets chunk by chunk.
 
 ghost use Rattle.std.specs.Prelude.{◌≡◌, ◌≤◌};
-ghost use Rattle.bitpack_sets.specs.Chunks.{places};
+ghost use Rattle.bitpack_sets.specs.Chunks.{positions};
 
 use crate::chunks::{Chunks, NO_KEY};
 use crate::operation::Operation;
@@ -15,8 +15,8 @@ pub(crate) struct Pair<'a> {
     // Where the ids that are left begin.
     i: usize,
     j: usize,
-    ghost a_within: { i ≤ places a },
-    ghost b_within: { j ≤ places b },
+    ghost a_within: { i ≤ positions a },
+    ghost b_within: { j ≤ positions b },
 }
 
 /// The ids of a key in two sets: where they begin and end in each.
@@ -30,14 +30,14 @@ pub(crate) struct Meeting {
 impl<'a> Pair<'a> {
     ghost use Rattle.std.specs.Prelude.{ℕ, ◌^◌, ◌<◌, IfSome, IfNone, true, false};
     ghost use Rattle.bitpack_sets.specs.Chunks.{first_key, ids_from};
-    ghost use Rattle.bitpack_sets.specs.Operations.{holds};
-    ghost use Rattle.bitpack_sets.specs.Pairs.{IsMeeting, IsPart, left, meets, places_left};
+    ghost use Rattle.bitpack_sets.specs.Operations.{apply};
+    ghost use Rattle.bitpack_sets.specs.Pairs.{IsMeeting, IsPart, left, meets, positions_left};
     ghost use Rattle.bitpack_sets.specs.Reads.{has};
 
     /// All of two sets.
     #[tactic(auto, unfolding(crate::specs::Pairs::left))]
     pub(crate) fn new(operation: Operation, a: Chunks<'a>, b: Chunks<'a>) -> Pair<'a>
-        ensures { (x : ℕ) → left result x ≡ holds operation (has x (ids_from a.entry 0)) (has x (ids_from b.entry 0)) }
+        ensures { (x : ℕ) → left result x ≡ apply operation (has x (ids_from a.entry 0)) (has x (ids_from b.entry 0)) }
     {
         Pair {
             operation,
@@ -54,7 +54,7 @@ impl<'a> Pair<'a> {
         ensures meeting { IfSome result (λ meeting. IsMeeting self.new meeting) }
         ensures part { IfSome result (λ meeting. IsPart meeting.key (meets self.new meeting) (left self.old) (left self.new)) }
         // It goes on.
-        ensures fewer { IfSome result (λ meeting. places_left self.new < places_left self.old) }
+        ensures fewer { IfSome result (λ meeting. positions_left self.new < positions_left self.old) }
     {
         self.skip();
         let key = self.a.key(self.i).min(self.b.key(self.j));
@@ -71,17 +71,17 @@ impl<'a> Pair<'a> {
     // Passes over chunks that only one set has, if their ids are not in the answer.
     fn skip(&mut self)
         ensures left { (x : ℕ) → left self.old x ≡ left self.new x }
-        ensures fewer { places_left self.new ≤ places_left self.old }
+        ensures fewer { positions_left self.new ≤ positions_left self.old }
         // Then the answer can have ids of the lower key.
-        ensures keeps_left { first_key (ids_from self.new.a self.new.i) < first_key (ids_from self.new.b self.new.j) → holds self.new.operation true false ≡ true }
-        ensures keeps_right { first_key (ids_from self.new.b self.new.j) < first_key (ids_from self.new.a self.new.i) → holds self.new.operation false true ≡ true }
+        ensures retains_left { first_key (ids_from self.new.a self.new.i) < first_key (ids_from self.new.b self.new.j) → apply self.new.operation true false ≡ true }
+        ensures retains_right { first_key (ids_from self.new.b self.new.j) < first_key (ids_from self.new.a self.new.i) → apply self.new.operation false true ≡ true }
     {
         loop {
             let x = self.a.key(self.i);
             let y = self.b.key(self.j);
-            if x < y && !self.operation.keeps_left() {
+            if x < y && !self.operation.retains_left() {
                 self.i = self.a.seek(self.i, y);
-            } else if y < x && !self.operation.keeps_right() {
+            } else if y < x && !self.operation.retains_right() {
                 self.j = self.b.seek(self.j, x);
             } else {
                 return;

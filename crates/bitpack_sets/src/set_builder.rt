@@ -21,7 +21,7 @@ pub struct SetBuilder {
 impl SetBuilder {
     ghost use Rattle.std.specs.Prelude.{◌≡◌, ◌↔◌, ◌+◌, ◌-◌, ◌<◌, ◌≤◌, ◌++◌, ◌∷◌, [], IfErr, IsTrue, OnErr, OnOk, length, slice_get, vec_capacity, vec_len};
     ghost use Rattle.bitpack_sets.specs.Builders.{Pushes, ids_of_builder, room_of_builder};
-    ghost use Rattle.bitpack_sets.specs.Sets.{text};
+    ghost use Rattle.bitpack_sets.specs.Sets.{encoding};
 
     /// Returns a builder without ids. Allocates nothing.
     pub fn new(alloc: Global) -> SetBuilder
@@ -107,11 +107,11 @@ impl SetBuilder {
     ///
     /// Fails with `Memory` if the vector has no room for the set and cannot grow; it grows at most once.
     pub fn encode(&self, out: &mut Vec<u8>) -> Result<(), SetError>
-        ensures ok { OnOk result (out.new.items ≡ out.old.items ++ text (ids_of_builder self.now)) }
+        ensures ok { OnOk result (out.new.items ≡ out.old.items ++ encoding (ids_of_builder self.now)) }
         ensures memory { IfErr result (λ e. e ≡ SetError.Memory) }
-        ensures room { OnErr result (vec_capacity out.old < vec_len out.old + length (text (ids_of_builder self.now))) }
+        ensures room { OnErr result (vec_capacity out.old < vec_len out.old + length (encoding (ids_of_builder self.now))) }
         ensures unchanged { OnErr result (out.new.items ≡ out.old.items) }
-        ensures kept { OnErr result (vec_capacity out.new ≡ vec_capacity out.old) }
+        ensures capacity { OnErr result (vec_capacity out.new ≡ vec_capacity out.old) }
     {
         append_set(self.ids.as_slice(), out)
     }

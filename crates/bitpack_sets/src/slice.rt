@@ -1,7 +1,7 @@
 //! Slices: some of the numbers 0 to 255, as bytes.
 
-pub(crate) mod marks;
-pub(crate) mod places;
+pub(crate) mod matches;
+pub(crate) mod positions;
 pub(crate) mod reading;
 mod rows;
 pub(crate) mod search;
@@ -14,7 +14,7 @@ ghost use Rattle.std.proofs.Props.{props};
 ghost use Rattle.bitpack_sets.specs.Props.{rising_prop};
 ghost use Rattle.bitpack_sets.specs.Slices.{HasSlice, slice_len};
 
-use crate::bitmap::marking::slice_bits;
+use crate::bitmap::single_bits::slice_bits;
 use crate::slice::reading::unpack_from;
 
 /// How many bytes the slice of `count` numbers has.

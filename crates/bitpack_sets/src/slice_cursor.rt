@@ -5,7 +5,7 @@ ghost use Rattle.bitpack_sets.specs.Bitmaps.{has_bit};
 ghost use Rattle.bitpack_sets.specs.Opened.{ids};
 ghost use Rattle.bitpack_sets.specs.Reads.{has, rank, slice_or_end};
 
-use crate::bitmap::marking::set_bit;
+use crate::bitmap::single_bits::set_bit;
 use crate::id_set::IdSet;
 use crate::ids::Ids;
 

@@ -1,4 +1,4 @@
 -- The definitions of the callers.
+pub mod Encodings
 pub mod Failures
 pub mod Stored
-pub mod Texts

@@ -17,7 +17,7 @@ use bitpacking::BitPacker;
 use std::alloc::Global;
 
 /// Packs a list by two packers of one format. The bytes are equal.
-pub fn text_by_two<P: BitPacker, Q: BitPacker>(
+pub fn encoding_by_two<P: BitPacker, Q: BitPacker>(
     alloc: Global,
     packer: &P,
     other: &Q,
@@ -25,42 +25,42 @@ pub fn text_by_two<P: BitPacker, Q: BitPacker>(
     values: &[u32],
 ) -> Result<(Vec<u8>, Vec<u8>), ListError>
     requires format { Q.lanes ≡ P.lanes }
-    ensures text { IfOk result (λ texts. List1 P.lanes kind values.now texts.0.items) }
-    ensures same { IfOk result (λ texts. texts.1.items ≡ texts.0.items) }
+    ensures encoding { IfOk result (λ encodings. List1 P.lanes kind values.now encodings.0.items) }
+    ensures same { IfOk result (λ encodings. encodings.1.items ≡ encodings.0.items) }
     ensures memory { length values.now ≤ 2 ^ 28 → IfErr result (λ e. e ≡ ListError.Memory) }
 {
     one_text();
-    let mut text = Vec::new(alloc);
-    list::encode(packer, kind, values, &mut text)?;
+    let mut encoding = Vec::new(alloc);
+    list::encode(packer, kind, values, &mut encoding)?;
     let mut same = Vec::new(alloc);
     list::encode(other, kind, values, &mut same)?;
-    Ok((text, same))
+    Ok((encoding, same))
 }
 
 /// Packs a list in version 2; packs it in version 1 and upgrades the result. The bytes are equal.
-pub fn text_by_upgrade<P: BitPacker>(
+pub fn encoding_by_upgrade<P: BitPacker>(
     alloc: Global,
     packer: &P,
     kind: ListKind,
     values: &[u32],
 ) -> Result<(Vec<u8>, Vec<u8>), ListError>
-    ensures text { IfOk result (λ texts. List2 P.lanes kind values.now texts.0.items) }
-    ensures same { IfOk result (λ texts. texts.1.items ≡ texts.0.items) }
+    ensures encoding { IfOk result (λ encodings. List2 P.lanes kind values.now encodings.0.items) }
+    ensures same { IfOk result (λ encodings. encodings.1.items ≡ encodings.0.items) }
 {
     one_text();
-    let mut text = Vec::new(alloc);
-    list2::encode(packer, kind, values, &mut text)?;
+    let mut encoding = Vec::new(alloc);
+    list2::encode(packer, kind, values, &mut encoding)?;
     let mut old = Vec::new(alloc);
     list::encode(packer, kind, values, &mut old)?;
     let mut same = Vec::new(alloc);
     list2::upgrade(packer, &old, &mut same)?;
-    Ok((text, same))
+    Ok((encoding, same))
 }
 
 /// A version 2 encoding belongs to one list.
 pub fn no_two_lists()
-    ensures { (kind other_kind : ListKind) (values others text : List ℕ) → AreBytes text
-        → List2 4 kind values text → List2 4 other_kind others text
+    ensures { (kind other_kind : ListKind) (values others encoding : List ℕ) → AreBytes encoding
+        → List2 4 kind values encoding → List2 4 other_kind others encoding
         → (other_kind ≡ kind) × (others ≡ values) }
 {
     one_text();

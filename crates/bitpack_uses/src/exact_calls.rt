@@ -43,8 +43,8 @@ pub fn unpack_chain() -> usize {
 }
 
 /// Searches a list that is not plain. The bytes may be untrusted.
-pub fn seek(text: &[u8], target: u32) -> Option<(usize, u32)> {
-    let list = PackedList::open(BitPacker1x::new(), text).ok()?;
+pub fn seek(encoding: &[u8], target: u32) -> Option<(usize, u32)> {
+    let list = PackedList::open(BitPacker1x::new(), encoding).ok()?;
     if list.kind() == ListKind::Plain {
         return None;
     }

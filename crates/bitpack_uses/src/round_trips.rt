@@ -22,7 +22,7 @@ use std::alloc::Global;
 pub fn block<P: BitPacker>(packer: &P, values: &[u32], bytes: &mut [u8], unpacked: &mut [u32]) -> u8
     requires block { length values.now ≡ P.BLOCK_LEN }
     requires room { 4 * P.BLOCK_LEN ≤ length bytes.old }
-    requires places { length unpacked.old ≡ P.BLOCK_LEN }
+    requires output { length unpacked.old ≡ P.BLOCK_LEN }
     ensures width { IsWidth Kind.Plain values.now result }
     ensures packed { IsPacked P.lanes result Kind.Plain values.now bytes.old bytes.new }
     ensures same { unpacked.new ≡ values.now }
@@ -45,7 +45,7 @@ pub fn chain<P: BitPacker>(
 ) -> usize
     requires blocks { length values.now ≡ P.BLOCK_LEN * length widths.old }
     requires room { 4 * length values.now ≤ length bytes.old }
-    requires places { length unpacked.old ≡ length values.now }
+    requires output { length unpacked.old ≡ length values.now }
     ensures packed { Chained P.lanes kind values.now widths.new (take result bytes.new) }
     ensures rest { drop result bytes.new ≡ drop result bytes.old }
     ensures same { unpacked.new ≡ values.now }
@@ -69,10 +69,10 @@ pub fn list<P: BitPacker>(
     ensures memory { length values.now ≤ 2 ^ 28 → IfErr result (λ e. e ≡ ListError.Memory) }
 {
     one_text();
-    let mut text = Vec::new(alloc);
-    list::encode(packer, kind, values, &mut text)?;
+    let mut encoding = Vec::new(alloc);
+    list::encode(packer, kind, values, &mut encoding)?;
     let mut unpacked = Vec::new(alloc);
-    list::decode(packer, &text, &mut unpacked)?;
+    list::decode(packer, &encoding, &mut unpacked)?;
     Ok(unpacked)
 }
 
@@ -87,9 +87,9 @@ pub fn value<P: BitPacker>(
     ensures same { IfOk result (λ found. found ≡ slice_get values.now position) }
     ensures fault { FailsWith (values_fault kind values.now) result }
 {
-    let mut text = Vec::new(alloc);
-    list2::encode(packer, kind, values, &mut text)?;
-    let list = PackedList::open(*packer, &text)?;
+    let mut encoding = Vec::new(alloc);
+    list2::encode(packer, kind, values, &mut encoding)?;
+    let list = PackedList::open(*packer, &encoding)?;
     Ok(list.get(position))
 }
 
@@ -103,8 +103,8 @@ pub fn search<P: BitPacker>(
     ensures first { IfOk result (λ found. found ≡ first_at_least values.now target) }
     ensures fault { FailsWith (values_fault ListKind.Sorted values.now) result }
 {
-    let mut text = Vec::new(alloc);
-    list2::encode(packer, ListKind::Sorted, values, &mut text)?;
-    let list = PackedList::open(*packer, &text)?;
+    let mut encoding = Vec::new(alloc);
+    list2::encode(packer, ListKind::Sorted, values, &mut encoding)?;
+    let list = PackedList::open(*packer, &encoding)?;
     Ok(list.seek(target, &mut Reads::new()))
 }

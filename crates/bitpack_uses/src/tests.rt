@@ -13,7 +13,7 @@ use bitpack::list2::{PackedList, Reads};
 use bitpack::{ListError, ListKind};
 use bitpacking::{BitPacker, BitPacker1x, BitPacker4x, BitPacker8x, Kind};
 use calls::open;
-use checks::{holds, returns, same_bytes, same_number, same_values, same_words};
+use checks::{is_true, returns, same_bytes, same_number, same_values, same_words};
 use std::alloc::Global;
 use std::process::Abort;
 
@@ -21,8 +21,8 @@ use std::process::Abort;
 fn thirds<const N: usize>() -> [u32; N] {
     let mut value: u32 = 0;
     let mut values = [0; N];
-    for place in values.iter_mut() {
-        *place = value;
+    for item in values.iter_mut() {
+        *item = value;
         value = value.wrapping_add(3);
     }
     values
@@ -30,13 +30,17 @@ fn thirds<const N: usize>() -> [u32; N] {
 
 #[test]
 fn a_posting_list(rt: HostRuntime) {
-    let text = posting_list::pack(rt.alloc(), &[5, 7]).expect(&rt, "a text");
-    same_bytes(&rt, &text, &[1, 2, 4, 2, 0, 0, 0, 5, 0, 0, 0, 7, 0, 0, 0]);
-    let documents = posting_list::unpack(rt.alloc(), &text).expect(&rt, "documents");
+    let encoding = posting_list::pack(rt.alloc(), &[5, 7]).expect(&rt, "an encoding");
+    same_bytes(
+        &rt,
+        &encoding,
+        &[1, 2, 4, 2, 0, 0, 0, 5, 0, 0, 0, 7, 0, 0, 0],
+    );
+    let documents = posting_list::unpack(rt.alloc(), &encoding).expect(&rt, "documents");
     same_values(&rt, &documents, &[5, 7]);
-    let short = text.get(..14).unwrap_or(&[]);
+    let short = encoding.get(..14).unwrap_or(&[]);
     let refused = posting_list::unpack(rt.alloc(), short).err();
-    holds(&rt, refused == Some(ListError::Short), "a missing byte");
+    is_true(&rt, refused == Some(ListError::Short), "a missing byte");
 }
 
 #[test]
@@ -80,10 +84,10 @@ fn round_trip_of_block<P: BitPacker>(rt: &impl Abort, packer: &P, width: usize) 
     let mut bytes = [0; 2048];
     let mut unpacked = [0; 512];
     let block = &values[..P::BLOCK_LEN];
-    let places = &mut unpacked[..P::BLOCK_LEN];
-    let found = round_trips::block(packer, block, &mut bytes, places);
+    let output = &mut unpacked[..P::BLOCK_LEN];
+    let found = round_trips::block(packer, block, &mut bytes, output);
     same_number(rt, found as usize, width, "width");
-    same_values(rt, places, block);
+    same_values(rt, output, block);
 }
 
 /// Packs every third number, two blocks as differences lowered by one, of 2 bits each.
@@ -93,10 +97,10 @@ fn round_trip_of_chain<P: BitPacker>(rt: &impl Abort, packer: &P, chain_bytes: u
     let mut unpacked = [0; 512];
     let start = Kind::StrictlySorted(None);
     let blocks = &values[..2 * P::BLOCK_LEN];
-    let places = &mut unpacked[..2 * P::BLOCK_LEN];
-    let size = round_trips::chain(packer, start, blocks, &mut [0; 2], &mut bytes, places);
+    let output = &mut unpacked[..2 * P::BLOCK_LEN];
+    let size = round_trips::chain(packer, start, blocks, &mut [0; 2], &mut bytes, output);
     same_number(rt, size, chain_bytes, "bytes");
-    same_values(rt, places, blocks);
+    same_values(rt, output, blocks);
 }
 
 fn round_trips_of<P: BitPacker>(rt: &impl Abort, packer: &P, width: usize, chain_bytes: usize) {
@@ -189,11 +193,11 @@ fn chain_is_refused(
     alloc: Global,
     (widths, bytes): (&[u8], &[u8]),
     error: StoredError,
-    text: &str,
+    message: &str,
 ) {
     reads(rt, chain_read(widths, bytes, &mut [9; 65]), Err(error));
     let said = format!(in alloc; "{error}").expect(rt, "memory");
-    same_words(rt, said.as_str(), text);
+    same_words(rt, said.as_str(), message);
 }
 
 #[test]
@@ -253,11 +257,11 @@ fn two_lengths(rt: &impl Abort, out: &mut Vec<u32>) {
 fn intersections(rt: HostRuntime) {
     let mut out = Vec::new(rt.alloc());
     let both = exact_calls::intersect(&SORTED, &SORTED, &mut out);
-    holds(&rt, both == Some(()), "two sorted lists");
+    is_true(&rt, both == Some(()), "two sorted lists");
     let plain = exact_calls::intersect(&SORTED, &PLAIN, &mut out);
-    holds(&rt, plain.is_none(), "the second is plain");
+    is_true(&rt, plain.is_none(), "the second is plain");
     let plain = exact_calls::intersect(&PLAIN, &SORTED, &mut out);
-    holds(&rt, plain.is_none(), "the first is plain");
+    is_true(&rt, plain.is_none(), "the first is plain");
     same_values(&rt, &out, &[5]);
     two_lengths(&rt, &mut out);
     same_values(&rt, &out, &[5, 5, 5]);

@@ -15,7 +15,7 @@ use Rattle.bitpacking.proofs.Blocks.{AreWords-values_of, AreWords-codes, codes-v
 use Rattle.bitpacking.proofs.OneLaneLayouts.{layout-lane}
 use Rattle.bitpacking.proofs.RegisterLemmas.{word-bytes_of_words}
 use Rattle.bitpacking.proofs.Widths.{least_width, Least-same, Fits-more}
-pub use Rattle.bitpacking.proofs.Facts.{tells, tells_last}
+pub use Rattle.bitpacking.proofs.Facts.{with_fact, with_last_fact}
 pub use Rattle.bitpacking.proofs.OrderLemmas.{strict_saves_at_most_a_bit, sorted_codes_are_differences}
 pub use Rattle.bitpacking.proofs.RoundTrips.{bytes_hold_one_block, block_has_one_list, blocks_share_no_bytes, equal_packed_buffers, equal_unpacked_values}
 pub use Rattle.bitpacking.proofs.FrontWords.{AreBytes-take}

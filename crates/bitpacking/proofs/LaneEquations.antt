@@ -75,10 +75,10 @@ bit-from_lane lanes width values bytes small len fits l lt same i j hi hj =
     let f : ℕ → ℕ = lane_code lanes values l in
     let e : bit_at (joined width f 32) (i * width + j) ≡ bit_at (f i) j =
     bit_at-joined width f 32 i j (lane_code-lt lanes width values l len fits lt) hi hj in
-    let in_place : bit_of bytes (place lanes width (i * lanes + l) j)
+    let at_bit : bit_of bytes (place lanes width (i * lanes + l) j)
     ≡ bit_of bytes (32 * (lanes * (p / 32) + l) + p % 32) =
     ap (bit_of bytes) (place_at lanes width i l j lt) in
-    sym (in_place ∙ bit_of-lane lanes width bytes small l p (bit_place width i j hi hj)
+    sym (at_bit ∙ bit_of-lane lanes width bytes small l p (bit_place width i j hi hj)
     ∙ ap (λ x. bit_at x p) same.same ∙ e)
 
 pub row_below : (lanes k : ℕ) → 0 < lanes → k < 32 * lanes → k / lanes < 32
@@ -125,7 +125,7 @@ lanes-from_layout lanes width values bytes small layout l lt =
           let hj : t % width < width = mod_below t width some in
           let e : bit_at (joined width g 32) (t / width * width + t % width) ≡ bit_at (g (t / width)) (t % width) =
           bit_at-joined width g 32 (t / width) (t % width) g_small hi hj in
-          let in_place : place lanes width (t / width * lanes + l) (t % width)
+          let at_bit : place lanes width (t / width * lanes + l) (t % width)
           ≡ 32 * (lanes * ((t / width * width + t % width) / 32) + l) + (t / width * width + t % width) % 32 =
           place_at lanes width (t / width) l (t % width) lt in
           let b : bit_at (get_or values (t / width * lanes + l) 0) (t % width)
@@ -134,6 +134,6 @@ lanes-from_layout lanes width values bytes small layout l lt =
           (omega (arith, mul-add-lt (t / width) lanes l 32 hi lt)) hj in
           let whole : t / width * width + t % width ≡ t = row_split width t in
           sym (bit_of-lane lanes width bytes small l t ht)
-          ∙ sym (rw (in_place, whole) at b)
+          ∙ sym (rw (at_bit, whole) at b)
           ∙ sym (rw whole at e));
     }

@@ -37,8 +37,8 @@ layout-lane lanes width lane values bytes hl layout =
           let p : ℕ = i * width + j in
           let first : i * 1 + 0 ≡ i = omega arith in
           let alone : 32 * (1 * (p / 32) + 0) + p % 32 ≡ p = omega arith in
-          let in_place : place 1 width i j ≡ p = rw (first, alone) at (place_at 1 width i 0 j (omega arith)) in
-          rw (get_or-made f 32 i row, in_place)
+          let at_bit : place 1 width i j ≡ p = rw (first, alone) at (place_at 1 width i 0 j (omega arith)) in
+          rw (get_or-made f 32 i row, at_bit)
           (layout.bits (i * lanes + lane) j (omega (arith, mul-add-lt i lanes lane 32 row hl)) hj
           ∙ ap (bit_of bytes) (place_at lanes width i lane j hl)
           ∙ sym (bit_of-lane_bytes lanes lane width bytes p (bit_place width i j row hj)));

@@ -28,9 +28,9 @@ pub bit_at-bits : (f : ℕ → ℕ) (n m : ℕ) → ((i : ℕ) → f i < 2) → 
 bit_at-bits f n m small lt =
     let e : bit_at (joined 1 f n) (m * 1 + 0) ≡ bit_at (f m) 0 =
     bit_at-joined 1 f n m 0 (λ i h. small i) lt (omega arith) in
-    let in_place : m * 1 + 0 ≡ m = omega arith in
+    let at_bit : m * 1 + 0 ≡ m = omega arith in
     let h : f m < 2 = small m in
-    rw in_place at e ∙ omega arith
+    rw at_bit at e ∙ omega arith
 
 pub same_bytes : (xs ys : List ℕ) → AreBytes xs → AreBytes ys → length xs ≡ length ys
     → ((t : ℕ) → t < 8 * length xs → bit_of xs t ≡ bit_of ys t) → xs ≡ ys

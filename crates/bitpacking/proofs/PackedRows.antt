@@ -11,19 +11,19 @@ use Rattle.bitpacking.specs.Width.{Fits}
 use Rattle.bitpacking.specs.Words.{word as word_of}
 use Rattle.bitpacking.specs.declared.memory.Steps.{Steps}
 use Rattle.bitpacking.proofs.LaneEquations.{lane_code, lane_word, Layout-from_lanes}
-use Rattle.bitpacking.proofs.PackedLane.{Packed-start, Packed-keep, Packed-store, Packed-end, room_left}
+use Rattle.bitpacking.proofs.PackedLane.{Packed-start, Packed-append, Packed-store, Packed-end, room_left}
 use Rattle.bitpacking.proofs.WordsOfParts.{row_after, row_at}
 use Rattle.bitpacking.proofs.RegisterLemmas.{lane-splat}
 use Rattle.bitpacking.proofs.RowSteps.{codes_step}
 use Rattle.bitpacking.proofs.FrontWords.{joined-front, AreBytes-take}
 
 -- Where row n begins, in words and bits.
-pub row_place : (w n : ℕ) → 32 * (n * w / 32) + n * w % 32 ≡ w * n
-row_place w n = let e : n * w ≡ w * n = omega arith in omega arith
+pub row_offset : (w n : ℕ) → 32 * (n * w / 32) + n * w % 32 ≡ w * n
+row_offset w n = let e : n * w ≡ w * n = omega arith in omega arith
 
 -- The word that row n fills is one of the block.
 pub row_word : (w n : ℕ) → n < 32 → 32 ≤ n * w % 32 + w → n * w / 32 < w
-row_word w n lt full = room_left w n (n * w / 32) (n * w % 32) lt (row_place w n) full (omega arith)
+row_word w n lt full = room_left w n (n * w / 32) (n * w % 32) lt (row_offset w n) full (omega arith)
 
 -- A code that fills its word to the end leaves no bits.
 pub nothing_over : (code width filled : ℕ) → code < 2 ^ width → filled + width ≡ 32 → code / 2 ^ (32 - filled) ≡ 0
@@ -52,8 +52,8 @@ module _ (lanes width i : ℕ) (codes values row given : List ℕ) (old new : Li
       rw (code l h) at (rows.fits (i * lanes + l) 0 (omega (arith, rows.code_count, mul-add-lt i lanes l 32 lt h)))
 
   -- Its codes leave the words short.
-  pub RowsPacked-keep : i * width % 32 + width < 32 → RowsPacked lanes width (i + 1) codes values new bytes word
-  RowsPacked-keep short =
+  pub RowsPacked-append : i * width % 32 + width < 32 → RowsPacked lanes width (i + 1) codes values new bytes word
+  RowsPacked-append short =
       let next : (i + 1) * width ≡ i * width + width = omega arith in
       let stored : (i + 1) * width / 32 ≡ i * width / 32 = rw next (omega arith) in
       let filled : (i + 1) * width % 32 ≡ i * width % 32 + width = rw next (omega arith) in
@@ -63,8 +63,8 @@ module _ (lanes width i : ℕ) (codes values row given : List ℕ) (old new : Li
         are_bytes = rows.are_bytes;
         left = after;
         packed = λ l h. rw (stored, filled, joined_to l h)
-            (Packed-keep width (lane_word lanes bytes l) (lane_code lanes codes l) i (i * width / 32) (i * width % 32)
-            (get_or pending l 0) (get_or given l 0) (code l h) (code_fits l h) (row_place width i) (omega arith) (rows.packed l h));
+            (Packed-append width (lane_word lanes bytes l) (lane_code lanes codes l) i (i * width / 32) (i * width % 32)
+            (get_or pending l 0) (get_or given l 0) (code l h) (code_fits l h) (row_offset width i) (omega arith) (rows.packed l h));
       }
 
   -- Its codes fill the words, which are stored.
@@ -85,16 +85,16 @@ module _ (lanes width i : ℕ) (codes values row given : List ℕ) (old new : Li
         packed = λ l h. rw (stored, filled, left_over l h (code_fits l h))
             (Packed-store width (lane_word lanes bytes l) (lane_word lanes bytes' l) (lane_code lanes codes l)
             i (i * width / 32) (i * width % 32) (get_or pending l 0) (get_or given l 0)
-            (code l h) (code_fits l h) (row_place width i) full (omega arith)
+            (code l h) (code_fits l h) (row_offset width i) full (omega arith)
             (λ q hq. before (lanes * q + l)
             (omega (arith, mul-le lanes (q + 1) lanes (i * width / 32) (omega arith) (omega arith))))
             (stores l h ∙ joined_to l h) (rows.packed l h));
       }
 
 -- The moves of one row more, which fills no word.
-pub PacksRows-keep : (old before loaded : Steps) (w from i : ℕ) → i * w % 32 + w < 32
+pub PacksRows-append : (old before loaded : Steps) (w from i : ℕ) → i * w % 32 + w < 32
     → PacksRows old before w from i → IsLoad before loaded w → PacksRows old loaded w from (i + 1)
-PacksRows-keep old before loaded w from i short so_far load =
+PacksRows-append old before loaded w from i short so_far load =
     let next : (i + 1) * w ≡ i * w + w = omega arith in
     let stored : (i + 1) * w / 32 ≡ i * w / 32 = rw next (omega arith) in
     let filled : (i + 1) * w % 32 ≡ i * w % 32 + w = rw next (omega arith) in
@@ -146,5 +146,5 @@ RowsPacked-done lanes width codes values next bytes pending some room rows =
       same =
           joined-front lanes width bytes l lt
           ∙ Packed-end width (lane_word lanes bytes l) (lane_code lanes codes l) 32 (32 * width / 32) (32 * width % 32)
-          (get_or pending l 0) refl (row_place width 32) (omega arith) (rows.packed l lt);
+          (get_or pending l 0) refl (row_offset width 32) (omega arith) (rows.packed l lt);
     })

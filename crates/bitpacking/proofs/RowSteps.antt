@@ -1,6 +1,6 @@
 -- A turn of a loop over the rows of a block: a register of codes or values is taken off what is left, and added to what is done.
 use Rattle.std.proofs.Common.{◌≡◌, ℕ, ◌+◌, ◌*◌, ◌<◌, ◌≤◌, List, [], ◌++◌, length, get_or, take, drop, sym, ◌∙◌, ap, arith}
-use Rattle.std.proofs.lemmas.List.{drop_all, append-nil}
+use Rattle.std.proofs.lemmas.List.{append-nil, drop_all}
 use Rattle.std.proofs.lemmas.Nat.{mul-le}
 use Rattle.bitpacking.proofs.WordsOfParts.{drop-further, row_first, row_is}
 

@@ -52,9 +52,9 @@ pub Unpacked-load : (w number n loaded left pending word : ℕ) → left < w →
     → Unpacked w number n loaded left pending
     → (bit_or pending ((word * 2 ^ left) % 2 ^ 32) % 2 ^ w ≡ digit w number n)
     × (Unpacked w number (n + 1) (loaded + 1) (left + 32 - w) (word / 2 ^ (w - left)))
-Unpacked-load w number n loaded left pending word lt fit place read unpacked =
+Unpacked-load w number n loaded left pending word lt fit offset read unpacked =
     let word' : word ≡ number / 2 ^ (w * n) / 2 ^ left % 2 ^ 32 =
-    read ∙ rw place (ap (λ x. x % 2 ^ 32) (sym (shr-shr number (w * n) left))) in
+    read ∙ rw offset (ap (λ x. x % 2 ^ 32) (sym (shr-shr number (w * n) left))) in
     let whole : number / 2 ^ (w * n) % 2 ^ (32 + left) ≡ word * 2 ^ left + pending =
     rw (word', unpacked.is) (mod-pow-add (number / 2 ^ (w * n)) 32 left) in
     let small : pending < 2 ^ left = rw unpacked.is (mod_below (number / 2 ^ (w * n)) (2 ^ left) (pow_pos left)) in
@@ -86,7 +86,7 @@ masked n w lt = rw (one_shl w 32 lt) (and_mask n w)
 
 -- A word is loaded only where there is one.
 pub words_left : (w n loaded left : ℕ) → n < 32 → 32 * loaded ≡ w * n + left → left < w → loaded < w
-words_left w n loaded left lt place need =
+words_left w n loaded left lt offset need =
     let h : (n + 1) * w ≤ 32 * w = mul-le (n + 1) w 32 w (omega arith) (omega arith) in
     omega arith
 

@@ -18,12 +18,12 @@ abbrev pub lane_number : ℕ → ℕ → List ℕ → ℕ → ℕ
 lane_number lanes width bytes l = joined 32 (lane_word lanes bytes l) width
 
 -- Where the bits of row n begin, in words and bits.
-pub left_place : (w n : ℕ) → 32 * words_to w n ≡ w * n + left_at w n
-left_place w n = let e : n * w ≡ w * n = omega arith in omega arith
+pub left_offset : (w n : ℕ) → 32 * words_to w n ≡ w * n + left_at w n
+left_offset w n = let e : n * w ≡ w * n = omega arith in omega arith
 
 -- The word that row n wants is one of the block.
 pub word_there : (w n : ℕ) → n < 32 → left_at w n < w → words_to w n < w
-word_there w n lt need = words_left w n (words_to w n) (left_at w n) lt (left_place w n) need
+word_there w n lt need = words_left w n (words_to w n) (left_at w n) lt (left_offset w n) need
 
 -- What row n + 1 has before it, where row n wants a word and where it wants none.
 pub words_to-load : (w n : ℕ) → left_at w n < w → w < 32 → words_to w (n + 1) ≡ words_to w n + 1
@@ -48,7 +48,7 @@ pub lane-load : (lanes width i : ℕ) (bytes : List ℕ) (l pending word whole o
 lane-load lanes width i bytes l pending word whole over are_bytes lt narrow need read whole_is over_is unpacked =
     rw (left_at-load width i need narrow, words_to-load width i need narrow, whole_is, over_is)
     (Unpacked-load width (lane_number lanes width bytes l) i (words_to width i) (left_at width i) pending word need (omega arith)
-    (left_place width i)
+    (left_offset width i)
     (read ∙ sym (digit-joined 32 (lane_word lanes bytes l) width (words_to width i)
     (λ q h. word-lt bytes are_bytes (lanes * q + l)) (word_there width i lt need)))
     unpacked)

@@ -12,15 +12,15 @@ use Rattle.bitpacking.specs.Layout.{place, size, Layout}
 use Rattle.bitpacking.specs.WorkedBlocks.{ThreeBits, ThreeBitsSorted, FourBits, WrappedFives, FourLanes, AcrossWords, EightLanes, FallWidth, StillWidth, StepsWidth, NoStepsWidth, NoStepsFromLastWidth}
 
 -- whether bit j of code k has its bit number
-abbrev in_place : ℕ → ℕ → List ℕ → List ℕ → ℕ → ℕ → Bool
-in_place lanes width codes bytes k j = bit_at (get_or codes k 0) j == bit_of bytes (place lanes width k j)
+abbrev at_bit : ℕ → ℕ → List ℕ → List ℕ → ℕ → ℕ → Bool
+at_bit lanes width codes bytes k j = bit_at (get_or codes k 0) j == bit_of bytes (place lanes width k j)
 
 abbrev yes : ℕ → Bool
 yes _ = true
 
 abbrev all_stand : ℕ → ℕ → List ℕ → List ℕ → Bool
 all_stand lanes width codes bytes =
-    agree_below yes (λ k. agree_below yes (in_place lanes width codes bytes k) width) (32 * lanes)
+    agree_below yes (λ k. agree_below yes (at_bit lanes width codes bytes k) width) (32 * lanes)
 
 -- whether every code is below 2 ^ width
 abbrev all_below : ℕ → List ℕ → Bool
@@ -36,10 +36,10 @@ Layout-from_test lanes width codes bytes code_count byte_count below all = recor
   byte_count = byte_count;
   fits = Fits-from_test width codes below;
   bits = λ k j hk hj.
-      let row : true ≡ agree_below yes (in_place lanes width codes bytes k) width =
-      agree_below_at yes (λ k. agree_below yes (in_place lanes width codes bytes k) width) (32 * lanes) k all hk in
+      let row : true ≡ agree_below yes (at_bit lanes width codes bytes k) width =
+      agree_below_at yes (λ k. agree_below yes (at_bit lanes width codes bytes k) width) (32 * lanes) k all hk in
       eqb-true (bit_at (get_or codes k 0) j) (bit_of bytes (place lanes width k j))
-      (sym (agree_below_at yes (in_place lanes width codes bytes k) width j (sym row) hj));
+      (sym (agree_below_at yes (at_bit lanes width codes bytes k) width j (sym row) hj));
 }
 
 -- the width is least where one code has a bit that high

@@ -92,10 +92,10 @@ abbrev pub AreNarrow : List ℕ → Type 0
 AreNarrow widths = All (λ width. width ≤ 32) widths
 
 -- why `bytes` bytes do not hold blocks of these widths
-abbrev pub CannotHold : ℕ → List ℕ → ℕ → CallError → Type 0
-CannotHold lanes widths bytes BadWidth = ¬ (AreNarrow widths)
-CannotHold lanes widths bytes Short = bytes < 4 * lanes * sum widths
-CannotHold lanes widths bytes error = ⊥
+abbrev pub CannotRead : ℕ → List ℕ → ℕ → CallError → Type 0
+CannotRead lanes widths bytes BadWidth = ¬ (AreNarrow widths)
+CannotRead lanes widths bytes Short = bytes < 4 * lanes * sum widths
+CannotRead lanes widths bytes error = ⊥
 
 -- why bytes cannot be unpacked as a chain of these widths; room for the values is tested last
 abbrev pub CannotUnpackAll : ℕ → List ℕ → ℕ → ℕ → CallError → Type 0

@@ -4,7 +4,7 @@ use Rattle.bitpack_columns.specs.declared.column_error.ColumnError.{ColumnError}
 use Rattle.bitpack_columns.specs.declared.column_error.ColumnError.TheVariants.{NotSorted, Overflow, Short}
 use Rattle.bitpack_columns.specs.declared.column_kind.ColumnKind.{ColumnKind}
 use Rattle.bitpack_columns.specs.declared.column_kind.ColumnKind.TheVariants.{Plain, Sorted}
-use Rattle.bitpack_columns.specs.Columns.{IsColumn, text}
+use Rattle.bitpack_columns.specs.Columns.{IsColumn, encoding}
 use Rattle.bitpack_columns.specs.Errors.{number_of_error}
 use Rattle.bitpack_columns.specs.Ranges.{AreBounds, first_from}
 use Rattle.bitpack_columns.specs.Stated.{kind_in, values_in}
@@ -13,7 +13,7 @@ use Rattle.bitpacking_c.specs.Views.{WritesFound}
 
 -- the bytes are the encoding of the column that they state
 abbrev pub EncodeColumn : List ℕ → Type 0
-EncodeColumn bytes = IsColumn (kind_in bytes) (values_in bytes) × (text (kind_in bytes) (values_in bytes) ≡ bytes)
+EncodeColumn bytes = IsColumn (kind_in bytes) (values_in bytes) × (encoding (kind_in bytes) (values_in bytes) ≡ bytes)
 
 -- the kind with a number, which is 0 or 1
 abbrev pub known_kind : ℕ → ColumnKind

@@ -4,12 +4,12 @@ use Rattle.bitpack_sets.specs.declared.set_error.SetError.{SetError}
 use Rattle.bitpack_sets.specs.declared.set_error.SetError.TheVariants.{NotSorted, Short}
 use Rattle.bitpack_sets.specs.Errors.{number_of_error}
 use Rattle.bitpack_sets.specs.Reads.{rank}
-use Rattle.bitpack_sets.specs.Sets.{IsSet, text}
+use Rattle.bitpack_sets.specs.Sets.{IsSet, encoding}
 use Rattle.bitpack_sets.specs.Written.{WritesSet}
 
 -- the bytes are the encoding of these ids
 abbrev pub Encodes : List ℕ → List ℕ → Type 0
-Encodes bytes ids = IsSet ids × (text ids ≡ bytes)
+Encodes bytes ids = IsSet ids × (encoding ids ≡ bytes)
 
 -- the number of a fault of bytes: -20 less the fault's own number; 0 is no fault
 abbrev pub set_fault_number : Option SetError → ℤ

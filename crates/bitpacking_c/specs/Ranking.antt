@@ -1,12 +1,13 @@
 -- What the calls of ranked search return.
-use Rattle.std.specs.Prelude.{◌≡◌, ◌≢◌, ℕ, ◌^◌, ◌<◌, ◌≤◌, ℤ, pos, negsuc, List, length, map, max, take}
+use Rattle.std.specs.Prelude.{◌≡◌, ◌≢◌, ℕ, ◌^◌, ◌<◌, ◌≤◌, ℤ, pos, negsuc, None, List, length, map, max, take}
 use Rattle.bitpack_columns.specs.Stated.{values_in}
-use Rattle.bitpack_ranked.specs.Ranked.{AreBest, IsHit}
+use Rattle.bitpack_ranked.specs.Ranked.{AreBest, IsAmong, IsHit}
 use Rattle.bitpack_ranked.specs.Scores.{IsTable}
 use Rattle.bitpack_ranked.specs.Terms.{Word}
 use Rattle.bitpack_ranked.specs.declared.found.Scored.{Scored}
 use Rattle.bitpack_ranked.specs.declared.walk.Walk.{Walk}
 use Rattle.bitpack_sets.specs.Reads.{ids_in}
+use Rattle.bitpack_sets.specs.Slices.{first_fall}
 use Rattle.bitpacking_c.specs.Terms.{table_or_zeros}
 use Rattle.bitpacking_c.specs.declared.column_view.ColumnView.{ColumnView}
 use Rattle.bitpacking_c.specs.declared.set_view.SetView.{SetView}
@@ -34,3 +35,11 @@ pub record FindsBest (terms : List TermView) (classes : List ℕ) (at_least : �
   pub short : length terms ≤ 2 ^ 28 → length walks.0 < length terms → (answer ≡ negsuc 2) × (walks.1 ≡ walks.0) × (found.1 ≡ found.0)
   pub best : length terms ≤ 2 ^ 28 → length terms ≤ length walks.0 → (len : ℕ) × (answer ≡ pos len) × (len ≤ length found.0)
       × AreBest (IsHit (map word_of terms) classes (max 1 at_least)) (length found.0) (take len found.1)
+
+-- the best of these documents were written, and the result is how many these are; or there are too many terms, or the documents do not increase,
+-- and then nothing is written. `found` is before and after the call.
+pub record FindsBestAmong (documents : List ℕ) (terms : List TermView) (classes : List ℕ) (found : List Scored × List Scored) (answer : ℤ) : Type 0 where
+  pub many : 2 ^ 28 < length terms → (answer ≡ negsuc 24) × (found.1 ≡ found.0)
+  pub falls : length terms ≤ 2 ^ 28 → first_fall 0 documents ≢ None → (answer ≡ negsuc 29) × (found.1 ≡ found.0)
+  pub best : length terms ≤ 2 ^ 28 → first_fall 0 documents ≡ None → (len : ℕ) × (answer ≡ pos len) × (len ≤ length found.0)
+      × AreBest (IsAmong documents (map word_of terms) classes) (length found.0) (take len found.1)

@@ -10,10 +10,10 @@ use Rattle.bitpacking_c.specs.IdSets.{NumbersSet}
 
 -- the ids do not increase, the result is -30 and nothing was written; or those that pass a test were moved to the front, in their order, and
 -- their number is the result
-pub record KeepsIds (test : ℕ → Bool) (before after : List ℕ) (number : ℤ) : Type 0 where
+pub record RetainsIds (test : ℕ → Bool) (before after : List ℕ) (number : ℤ) : Type 0 where
   pub falls : first_fall 0 before ≢ None → (number ≡ negsuc 29) × (after ≡ before)
   pub count : first_fall 0 before ≡ None → number ≡ pos (length (filter test before))
-  pub kept : first_fall 0 before ≡ None → take (length (filter test before)) after ≡ filter test before
+  pub retained : first_fall 0 before ≡ None → take (length (filter test before)) after ≡ filter test before
 
 -- the first `count` ids and the ids of a set, each once
 abbrev pub united : ℕ → List ℕ → List ℕ → List ℕ

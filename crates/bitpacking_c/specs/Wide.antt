@@ -11,8 +11,8 @@ abbrev pub HasSums : ℕ → List ℕ → List ℕ → Type 0
 HasSums base values out = (k : ℕ) → k < length values → slice_index out k ≡ base + slice_index values k
 
 -- the numbers from an index on are unchanged
-abbrev pub KeepsFrom : ℕ → List ℕ → List ℕ → Type 0
-KeepsFrom index before after = (k : ℕ) → index ≤ k → slice_index after k ≡ slice_index before k
+abbrev pub UnchangedFrom : ℕ → List ℕ → List ℕ → Type 0
+UnchangedFrom index before after = (k : ℕ) → index ≤ k → slice_index after k ≡ slice_index before k
 
 -- the sums of a base and all values were written and their number is the result; or the base is too great and the result is -7, or there is
 -- no room for them and it is -3, and nothing was written
@@ -20,7 +20,7 @@ pub record UnpacksSums (base : ℕ) (all before after : List ℕ) (answer : ℤ)
   pub above : most_base < base → (answer ≡ negsuc 6) × (after ≡ before)
   pub short : base ≤ most_base → length before < length all → (answer ≡ negsuc 2) × (after ≡ before)
   pub sums : base ≤ most_base → length all ≤ length before
-      → (answer ≡ pos (length all)) × HasSums base all after × KeepsFrom (length all) before after
+      → (answer ≡ pos (length all)) × HasSums base all after × UnchangedFrom (length all) before after
 
 -- the sum of a base and a value, if there is one
 abbrev pub sum_with : ℕ → Option ℕ → Option ℕ

@@ -1,7 +1,7 @@
 //! The calls on chains of blocks, for any packer. They test their arguments, and so have no preconditions.
 
 ghost use Rattle.std.specs.Prelude.{◌*◌, ◌^◌, ◌<◌, ◌≤◌, sum, OnOk, IfOk, IfErr};
-ghost use Rattle.bitpacking_c.specs.Answers.{AreNarrow, CannotHold, PacksAll, UnpacksAll};
+ghost use Rattle.bitpacking_c.specs.Answers.{AreNarrow, CannotRead, PacksAll, UnpacksAll};
 
 use crate::CallError;
 use bitpack_lists::chain;
@@ -59,7 +59,7 @@ pub(crate) fn unpack_all<P: BitPacker>(
 fn test_widths<P: BitPacker>(widths: &[u8], bytes: usize) -> Result<(), CallError>
     ensures narrow { OnOk result (AreNarrow widths.now) }
     ensures bytes { OnOk result (4 * P.lanes * sum widths.now ≤ bytes) }
-    ensures err { IfErr result (λ error. CannotHold P.lanes widths.now bytes error) }
+    ensures err { IfErr result (λ error. CannotRead P.lanes widths.now bytes error) }
 {
     let mut left = bytes;
     for index in 0..widths.len() {

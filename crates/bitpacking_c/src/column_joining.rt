@@ -8,7 +8,7 @@ ghost use Rattle.bitpacking_c.specs.Columns.{AnswersColumn, JoinsColumn};
 
 use crate::column_packing::answer;
 use crate::column_view::ColumnView;
-use bitpack_columns::laws::longest_text;
+use bitpack_columns::laws::longest_encoding;
 use bitpack_columns::{Column, ColumnError, append_to, join_to};
 
 /// Writes the column of the values of a column and of more values after them at the start of `bytes`, and returns its length. The rest of
@@ -55,7 +55,7 @@ fn append(column: &Column<'_>, more: &[u32], bytes: &mut [u8]) -> Result<usize, 
     ensures writes { WritesColumn (kind_of column.now) (values column.now ++ more.now) result bytes.old bytes.new }
     ensures small { IfOk result (λ size. size < 2 ^ 63) }
 {
-    longest_text();
+    longest_encoding();
     append_to(column, more, bytes)
 }
 
@@ -72,6 +72,6 @@ fn join(
         (kind_of column.now) (values column.now ++ raised base (values other.now)) result bytes.old bytes.new }
     ensures small { IfOk result (λ size. size < 2 ^ 63) }
 {
-    longest_text();
+    longest_encoding();
     join_to(column, base, other, room, bytes)
 }

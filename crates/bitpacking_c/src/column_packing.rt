@@ -5,7 +5,7 @@ ghost use Rattle.bitpack_columns.specs.Written.{MeasuresColumn, WritesColumn};
 ghost use Rattle.bitpacking_c.specs.Columns.{PacksColumn, SizesColumn, number_of_column, position_after_column};
 
 use crate::column_view::kind_of_number;
-use bitpack_columns::laws::longest_text;
+use bitpack_columns::laws::longest_encoding;
 use bitpack_columns::{ColumnError, ColumnKind, encode_to, encoded_len};
 
 /// Writes the column of these values at the start of `bytes`, and returns its length. The rest of `bytes` is unchanged. `kind` is 0 for plain
@@ -44,7 +44,7 @@ pub(crate) fn pack(kind: ColumnKind, values: &[u32], bytes: &mut [u8]) -> Result
     ensures writes { WritesColumn kind values.now result bytes.old bytes.new }
     ensures small { IfOk result (λ size. size < 2 ^ 63) }
 {
-    longest_text();
+    longest_encoding();
     encode_to(kind, values, bytes)
 }
 
@@ -53,7 +53,7 @@ fn size(kind: ColumnKind, values: &[u32]) -> Result<usize, ColumnError>
     ensures size { MeasuresColumn kind values.now result }
     ensures small { IfOk result (λ size. size < 2 ^ 63) }
 {
-    longest_text();
+    longest_encoding();
     encoded_len(kind, values)
 }
 

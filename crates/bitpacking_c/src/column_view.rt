@@ -31,11 +31,11 @@ pub struct ColumnView<'a> {
 }
 
 impl<'a> ColumnView<'a> {
-    ghost use Rattle.bitpack_columns.specs.Opened.{text_of};
+    ghost use Rattle.bitpack_columns.specs.Opened.{encoding_of};
 
     /// The view of an opened column, which has these bytes.
     fn of_column(bytes: &'a [u8], column: &Column<'a>) -> ColumnView<'a>
-        requires { text_of column.now ≡ bytes.now }
+        requires { encoding_of column.now ≡ bytes.now }
         ensures { result.bytes.now ≡ bytes.now }
     {
         let parts = column.parts();

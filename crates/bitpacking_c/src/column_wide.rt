@@ -3,7 +3,7 @@
 ghost use Rattle.std.specs.Prelude.{◌≡◌, ◌≤◌, length};
 ghost use Rattle.bitpack_columns.specs.Opened.{values};
 ghost use Rattle.bitpack_columns.specs.Stated.{values_in};
-ghost use Rattle.bitpacking_c.specs.Wide.{GetsSum, HasSums, KeepsFrom, UnpacksSums, most_base};
+ghost use Rattle.bitpacking_c.specs.Wide.{GetsSum, HasSums, UnchangedFrom, UnpacksSums, most_base};
 
 use crate::bases::{MOST_BASE, add_base};
 use crate::column_view::ColumnView;
@@ -61,7 +61,7 @@ fn copy_sums(column: &Column<'_>, base: u64, out: &mut [u64]) -> usize
     requires room { length (values column.now) ≤ length out.old }
     ensures count { result ≡ length (values column.now) }
     ensures sums { HasSums base (values column.now) out.new }
-    ensures rest { KeepsFrom (length (values column.now)) out.old out.new }
+    ensures rest { UnchangedFrom (length (values column.now)) out.old out.new }
 {
     let mut unpacked = [0; UNPACKED];
     let mut done = 0;

@@ -1,13 +1,13 @@
 //! Ranked search over terms, with work space of the caller.
 
-ghost use Rattle.bitpacking_c.specs.Ranking.{FindsBest, StartsTerm, word_of_views};
+ghost use Rattle.bitpacking_c.specs.Ranking.{FindsBest, FindsBestAmong, StartsTerm, word_of_views};
 
 use crate::column_view::ColumnView;
 use crate::set_view::SetView;
 use crate::term_view::TermView;
-use bitpack_ranked::{Parts, Scored, Walk, best};
+use bitpack_ranked::{Parts, Scored, Walk, best, best_among};
 use bitpack_sets::AsSet;
-use bitpack_sets::laws::one_text;
+use bitpack_sets::laws::one_encoding;
 
 /// The most terms.
 const MOST: usize = 0x1000_0000;
@@ -30,7 +30,7 @@ pub extern "C" fn bitpacking_term_start<'a>(
         Some(_) => {}
         None => return -12,
     }
-    one_text();
+    one_encoding();
     *term = TermView {
         set: *set,
         counts: *counts,
@@ -58,4 +58,24 @@ pub extern "C" fn bitpacking_best(
         return -3;
     }
     best(terms, classes, at_least, walks, found) as isize
+}
+
+/// Writes the best of increasing documents to the front of `found`, the best of them first, as many as there are and fit. Returns how many these
+/// are, or -25 for more than 2^28 terms, or -30 for documents that do not increase.
+#[unsafe(no_mangle)]
+pub extern "C" fn bitpacking_best_among(
+    documents: &[u32],
+    terms: &[TermView<'_>],
+    classes: &[u8],
+    found: &mut [Scored],
+) -> isize
+    ensures { FindsBestAmong documents.now terms.now classes.now (found.old, found.new) result }
+{
+    if terms.len() > MOST {
+        return -25;
+    }
+    match best_among(documents, terms, classes, found) {
+        Ok(count) => count as isize,
+        Err(_) => -30,
+    }
 }

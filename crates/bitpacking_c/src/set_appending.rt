@@ -8,7 +8,7 @@ ghost use Rattle.bitpacking_c.specs.IdSets.{AnswersSet};
 
 use crate::set_packing::answer;
 use crate::set_view::SetView;
-use bitpack_sets::laws::longest_text;
+use bitpack_sets::laws::longest_encoding;
 use bitpack_sets::{AsSet, IdSet, SetError, append_to};
 
 /// Writes the set of the ids of a set and of more ids after them at the start of `bytes`, and returns its length. The rest of `bytes` is
@@ -37,6 +37,6 @@ fn append(
     ensures writes { WritesWith (length room.old) (ids set.now ++ more.now) result bytes.old bytes.new }
     ensures small { IfOk result (λ size. size < 2 ^ 63) }
 {
-    longest_text();
+    longest_encoding();
     append_to(set, more, room, bytes)
 }

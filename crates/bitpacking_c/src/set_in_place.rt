@@ -1,39 +1,39 @@
 //! An id set combined with the increasing ids of an array, in the array.
 
 ghost use Rattle.std.specs.Prelude.{not};
-ghost use Rattle.bitpack_sets.specs.Kept.{keeps};
+ghost use Rattle.bitpack_sets.specs.Retained.{retains};
 ghost use Rattle.bitpack_sets.specs.Reads.{has, ids_in};
-ghost use Rattle.bitpacking_c.specs.SetArrays.{AddsIds, KeepsIds};
+ghost use Rattle.bitpacking_c.specs.SetArrays.{AddsIds, RetainsIds};
 
 use crate::set_packing::answer;
 use crate::set_view::SetView;
-use bitpack_sets::{AsSet, add_to, first_unsorted, keep};
+use bitpack_sets::{AsSet, add_to, first_unsorted, retain_if};
 
 /// Retains the ids of an array that the set has too: moves them to the front, in their order, and returns their number. If the array's ids do
 /// not increase it returns -30 and writes nothing.
 #[unsafe(no_mangle)]
 pub extern "C" fn bitpacking_set_retain(view: &SetView<'_>, ids: &mut [u32]) -> isize
-    ensures { KeepsIds (λ x. has x (ids_in view.now.bytes.now)) ids.old ids.new result }
+    ensures { RetainsIds (λ x. has x (ids_in view.now.bytes.now)) ids.old ids.new result }
 {
-    keep_ids(view, ids, true)
+    retain_ids(view, ids, true)
 }
 
 /// Retains the ids of an array that the set lacks: moves them to the front, in their order, and returns their number. If the array's ids do
 /// not increase it returns -30 and writes nothing.
 #[unsafe(no_mangle)]
 pub extern "C" fn bitpacking_set_remove(view: &SetView<'_>, ids: &mut [u32]) -> isize
-    ensures { KeepsIds (λ x. not (has x (ids_in view.now.bytes.now))) ids.old ids.new result }
+    ensures { RetainsIds (λ x. not (has x (ids_in view.now.bytes.now))) ids.old ids.new result }
 {
-    keep_ids(view, ids, false)
+    retain_ids(view, ids, false)
 }
 
 /// Retains the ids that the set has, or those that it lacks.
-fn keep_ids(view: &SetView<'_>, ids: &mut [u32], there: bool) -> isize
-    ensures { KeepsIds (keeps there (ids_in view.now.bytes.now)) ids.old ids.new result }
+fn retain_ids(view: &SetView<'_>, ids: &mut [u32], there: bool) -> isize
+    ensures { RetainsIds (retains there (ids_in view.now.bytes.now)) ids.old ids.new result }
 {
     match first_unsorted(ids) {
         Some(_) => -30,
-        None => keep(ids, &view.as_set(), there) as isize,
+        None => retain_if(ids, &view.as_set(), there) as isize,
     }
 }
 

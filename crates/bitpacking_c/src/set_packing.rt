@@ -4,7 +4,7 @@ ghost use Rattle.std.specs.Prelude.{◌≡◌, ◌^◌, ◌<◌, IfOk};
 ghost use Rattle.bitpack_sets.specs.Written.{MeasuresSet, WritesSet};
 ghost use Rattle.bitpacking_c.specs.IdSets.{AnswersSet, PacksSet, number_of_set, position_after_set};
 
-use bitpack_sets::laws::longest_text;
+use bitpack_sets::laws::longest_encoding;
 use bitpack_sets::{SetError, encode_to, encoded_len};
 
 /// Writes the id set of these ids at the start of `bytes`, and returns its length. The rest of `bytes` is unchanged. The ids have to
@@ -40,7 +40,7 @@ fn size(ids: &[u32]) -> Result<usize, SetError>
     ensures size { MeasuresSet ids.now result }
     ensures small { IfOk result (λ size. size < 2 ^ 63) }
 {
-    longest_text();
+    longest_encoding();
     encoded_len(ids)
 }
 

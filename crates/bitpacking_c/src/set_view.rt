@@ -28,11 +28,11 @@ pub struct SetView<'a> {
 
 impl<'a> SetView<'a> {
     ghost use Rattle.std.specs.Prelude.{IfSome};
-    ghost use Rattle.bitpack_sets.specs.Opened.{text_of};
+    ghost use Rattle.bitpack_sets.specs.Opened.{encoding_of};
 
     /// The view of an opened set, which has these bytes.
     fn of_set(bytes: &'a [u8], set: &IdSet<'a>) -> SetView<'a>
-        requires { text_of set.now ≡ bytes.now }
+        requires { encoding_of set.now ≡ bytes.now }
         ensures { result.bytes.now ≡ bytes.now }
     {
         let parts = set.parts();

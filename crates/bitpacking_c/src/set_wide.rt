@@ -3,7 +3,7 @@
 ghost use Rattle.std.specs.Prelude.{◌≡◌, ◌≤◌, length};
 ghost use Rattle.bitpack_sets.specs.Opened.{ids};
 ghost use Rattle.bitpack_sets.specs.Reads.{ids_in};
-ghost use Rattle.bitpacking_c.specs.Wide.{GetsSum, HasSums, KeepsFrom, UnpacksSums, most_base};
+ghost use Rattle.bitpacking_c.specs.Wide.{GetsSum, HasSums, UnchangedFrom, UnpacksSums, most_base};
 
 use crate::bases::{MOST_BASE, add_base};
 use crate::set_view::SetView;
@@ -61,7 +61,7 @@ fn copy_sums(set: &IdSet<'_>, base: u64, out: &mut [u64]) -> usize
     requires room { length (ids set.now) ≤ length out.old }
     ensures count { result ≡ length (ids set.now) }
     ensures sums { HasSums base (ids set.now) out.new }
-    ensures rest { KeepsFrom (length (ids set.now)) out.old out.new }
+    ensures rest { UnchangedFrom (length (ids set.now)) out.old out.new }
 {
     let mut unpacked = [0; UNPACKED];
     let mut done = 0;

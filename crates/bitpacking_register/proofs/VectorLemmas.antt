@@ -80,8 +80,8 @@ neighbour : (n k : ℕ) (previous current : List ℕ) → length previous ≡ n 
 neighbour n zero previous current long some =
     ap (λ i. get_or (previous ++ current) i 0) (add-zero (n - 1)) ∙ get_or_append_left previous current 0 (n - 1) (omega arith)
 neighbour n (suc k) previous current long some =
-    let place : n - 1 + suc k ≡ length previous + k = omega arith in
-    ap (λ i. get_or (previous ++ current) i 0) place ∙ get_or-append-add previous current k 0
+    let index_is : n - 1 + suc k ≡ length previous + k = omega arith in
+    ap (λ i. get_or (previous ++ current) i 0) index_is ∙ get_or-append-add previous current k 0
 
 pub first_words-delta : (n : ℕ) (current previous : List ℕ) → 1 ≤ n → AreWords n current → AreWords n previous
     → first_words n (zip2 wrapping_difference current (pick_l 0 (previous ++ current) (range_with_len (n - 1) n)))

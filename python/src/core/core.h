@@ -48,7 +48,7 @@ extern PyObject *numpy_empty, *type_u32, *type_index, *type_bool, *Refusal, *ref
 /* errors.c: each sets an exception, and returns NULL. A position or number below 0 is None. */
 void *fail(ptrdiff_t fault);
 void *fail_at(ptrdiff_t fault, Py_ssize_t position, Py_ssize_t number);
-void *fail_to_open(ptrdiff_t fault, const uint8_t *bytes, size_t len, Py_ssize_t number, const char *format);
+void *fail_to_open(ptrdiff_t fault, const uint8_t *bytes, size_t len, Py_ssize_t number);
 
 /* Opens the bytes of an object from `from` up to `to`. `number` is for an error: which of many these are, or -1. */
 typedef PyObject *open_call(PyTypeObject *type, PyObject *data, size_t from, size_t to, Py_ssize_t number);

@@ -66,14 +66,14 @@ void *fail_at(ptrdiff_t fault, Py_ssize_t position, Py_ssize_t number)
 
 void *fail(ptrdiff_t fault) { return fail_at(fault, -1, -1); }
 
-/* Raises what fimulowen.errors.refused makes of the bytes of a "set" or a "column": it looks for the place of the fault, but not in many bytes. */
-void *fail_to_open(ptrdiff_t fault, const uint8_t *bytes, size_t len, Py_ssize_t number, const char *format)
+/* Raises what fimulowen.errors.refused makes of the bytes of a set: it looks for the place of the fault, but not in many bytes. */
+void *fail_to_open(ptrdiff_t fault, const uint8_t *bytes, size_t len, Py_ssize_t number)
 {
     PyObject *of = number_or_none(number), *made = NULL;
     PyObject *copy = PyBytes_FromStringAndSize((const char *)bytes, (Py_ssize_t)(len <= READ_AGAIN ? len : READ_AGAIN + 1));
 
     if (of && copy)
-        made = PyObject_CallFunction(refused, "ssOOs", bitpacking_error_text(fault), name_of(fault), of, copy, format);
+        made = PyObject_CallFunction(refused, "ssOO", bitpacking_error_text(fault), name_of(fault), of, copy);
     Py_XDECREF(of);
     Py_XDECREF(copy);
     return raise(made);

@@ -11,7 +11,7 @@ static PyObject *opened(PyTypeObject *type, PyObject *data, size_t from, size_t 
         return NULL;
     UNLOCKED(self->len, answer = bitpacking_set_open(self->bytes, self->len, &((Set *)self)->view));
     if (answer < 0) {
-        fail_to_open(answer, self->bytes, self->len, number, "set");
+        fail_to_open(answer, self->bytes, self->len, number);
         Py_CLEAR(self);
     }
     return (PyObject *)self;

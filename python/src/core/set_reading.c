@@ -67,7 +67,7 @@ PyObject *Set_subscript(PyObject *self, PyObject *key)
             return NULL;
         return Set_item(self, at < 0 ? at + Set_length(self) : at);
     }
-    PyErr_SetString(PyExc_TypeError, "a position or a slice expected");
+    PyErr_SetString(PyExc_TypeError, "a position or a slice expected: gather reads many positions");
     return NULL;
 }
 

@@ -17,7 +17,7 @@ from . import _core
 from .column_values import STORED, UNITS, Numbers, integers_of
 from .errors import Error
 from .id_set import IdSet
-from .values import constant, index
+from .values import constant, index, room_for
 
 CHUNK = 1 << 16
 _PART = 4096
@@ -184,16 +184,10 @@ class Column(_core.Column):
         the part of it that has them. OverflowError if a value does not fit another type of integers.
 
         Missing values are NaT, or `fill`, or the array is a masked one if there is no `fill`; an `out` needs it."""
-        wanted = np.dtype(self._dtype if dtype is None else dtype) if out is None or dtype is not None else out.dtype
-        if out is None and wanted == self._dtype:
-            return self._shown(*self._numbers(0, len(self)), fill)
+        wanted = room_for(len(self), out, dtype).dtype if out is not None else np.dtype(self._dtype if dtype is None else dtype)
         self._need_fit(wanted, fill)
         if out is None:
-            return self._shown(*self._numbers(0, len(self)), fill).astype(wanted)
-        if not isinstance(out, np.ndarray) or out.dtype != wanted:
-            raise TypeError(f"out is no array of {wanted}")
-        if out.ndim != 1 or len(out) < len(self):
-            raise ValueError(f"out has no room for {len(self)} values in one dimension")
+            return self._shown(*self._numbers(0, len(self)), fill).astype(wanted, copy=False)
         if self._missing and fill is None and self._dtype.kind in "iu":
             raise ValueError("values are missing: fill names one for them")
         return self._unpack_to(out[: len(self)], fill)
@@ -209,7 +203,7 @@ class Column(_core.Column):
 
     def _need_fit(self, wanted: np.dtype, fill: Any) -> None:
         limits, both = self._limits(), "iu"
-        if self._dtype.kind not in both or wanted.kind not in both or limits is None:
+        if wanted == self._dtype or self._dtype.kind not in both or wanted.kind not in both or limits is None:
             return
         least, greatest = limits if fill is None else (min(limits[0], fill), max(limits[1], fill))
         if not np.iinfo(wanted).min <= least <= greatest <= np.iinfo(wanted).max:
@@ -280,13 +274,13 @@ class Column(_core.Column):
 
     def bounds(self) -> np.ndarray:
         """The least and the greatest value of each chunk of 65,536 values, as an array of two columns. Both are 0 if all are missing."""
-        table = np.frombuffer(self.data, _ROW, -(-len(self) // CHUNK), _START) if len(self) else np.empty(0, _ROW)
+        table = _table(self.data, len(self))
         return np.stack([table["least"], table["greatest"]], axis=1).astype("=u8").view(self._dtype)
 
     def append(self, values: Values, missing: Optional[npt.ArrayLike] = None) -> Column:
         """A new column of these values and more after them. Whole chunks are copied, and only the values after them packed."""
-        whole = len(self) // CHUNK
-        table, start = np.frombuffer(self.data, _ROW, -(-len(self) // CHUNK), _START) if len(self) else np.empty(0, _ROW), whole * CHUNK
+        whole, table = len(self) // CHUNK, _table(self.data, len(self))
+        start = whole * CHUNK
         numbers, mask = self._numbers(start, len(self) - start)
         more = Numbers(numbers, mask, self._dtype).and_then(_numbers_of(values, missing))
         first = _START + _ROW.itemsize * len(table)
@@ -318,6 +312,11 @@ def _assembled(cls: Any, dtype: np.dtype, count: int, chunks: List[Tuple[bytes, 
     return made
 
 
+def _table(data: memoryview, count: int) -> np.ndarray:
+    """The row of each chunk of so many values."""
+    return np.frombuffer(data, _ROW, -(-count // CHUNK), _START) if count else np.empty(0, _ROW)
+
+
 def _need(holds: bool, fault: str, byte: int, chunk: Optional[int] = None) -> None:
     if not holds:
         raise Error(_TEXTS[fault], fault, part=chunk, byte=byte)
@@ -342,7 +341,7 @@ def _read_header(data: memoryview) -> Tuple[np.dtype, int, np.ndarray, int]:
     end = _START + _ROW.itemsize * chunks
     _need(len(data) >= end, "Short", _START)
     _need(zlib.crc32(data[_START:end]) == crc, "BadChecksum", _START)
-    table = np.frombuffer(data[_START:end], _ROW) if chunks else np.empty(0, _ROW)
+    table = _table(data, count)
     size = end + int(table["sizes"].sum(dtype="u8"))
     _need(len(data) >= size, "Short", end)
     _need(len(data) == size, "Trailing", size)

@@ -2,11 +2,12 @@
 
 from __future__ import annotations
 
-import operator
 from typing import Any, List, NamedTuple, Optional, Tuple
 
 import numpy as np
 import numpy.typing as npt
+
+from .values import integer
 
 # How the values of each kind of type are stored, and the units of dates and times by their number in the header.
 STORED = {"i": np.dtype("i8"), "u": np.dtype("u8"), "M": np.dtype("i8"), "m": np.dtype("i8")}
@@ -86,16 +87,10 @@ def _dtype_of(array: np.ndarray) -> np.dtype:
 def _of_objects(objects: np.ndarray) -> Tuple[np.ndarray, np.ndarray]:
     """Integers that are objects, and which are None."""
     absent = np.array([it is None for it in objects], bool)
-    numbers: List[int] = [0 if it is None else _integer(it, at) for at, it in enumerate(objects)]
+    numbers: List[int] = [0 if it is None else integer(it, at) for at, it in enumerate(objects)]
     is_wide = max(numbers, default=0) >= 1 << 63
     least, greatest = (0, (1 << 64) - 1) if is_wide else (-(1 << 63), (1 << 63) - 1)
     for at, it in enumerate(numbers):
         if not least <= it <= greatest:
             raise OverflowError(f"position {at}: {it} is not from {least} to {greatest}")
     return np.array(numbers, "u8" if is_wide else "i8"), absent
-
-
-def _integer(it: Any, at: int) -> int:
-    if isinstance(it, (bool, np.bool_)) or not hasattr(it, "__index__"):
-        raise TypeError(f"position {at}: {it!r} is not an integer")
-    return operator.index(it)

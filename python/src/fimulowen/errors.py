@@ -33,8 +33,8 @@ class Error(ValueError):
         return f"{self.text} ({', '.join([str(self.fault), *places])})"
 
 
-def refused(text: str, fault: str, number: Optional[int], data: bytes, format: str) -> Error:
-    """The error for bytes that do not open as a "set" or a "column", with where it is in them."""
+def refused(text: str, fault: str, number: Optional[int], data: bytes) -> Error:
+    """The error for bytes that do not open as a set, with where it is in them."""
     from .faults import place
 
-    return Error(text, fault, number=number, **place(data, fault, format))
+    return Error(text, fault, number=number, **place(data, fault))

@@ -1,14 +1,14 @@
-"""Where the fault of damaged bytes is: its part, its byte or its position. The C library says what is wrong; this reads the bytes again, in the
+"""Where the fault of a damaged set is: its part, its byte or its position. The C library says what is wrong; this reads the bytes again, in the
 order of docs/FORMAT.md, up to the same fault. It only runs once bytes are refused."""
 
 from __future__ import annotations
 
-from importlib import import_module
-from typing import Any, Dict, Optional
+from typing import Any, Dict, List, Optional, Tuple
 
 import numpy as np
 
 MOST = 1 << 20  # bytes that are read again, in about a tenth of a second
+_SHORT, _MOST = 128, 1 << 28
 
 
 class Found(Exception):
@@ -19,13 +19,13 @@ class Found(Exception):
         self.fault, self.place = fault, {"byte": byte, "part": part, "position": position}
 
 
-def place(data: bytes, fault: str, format: str) -> Dict[str, Any]:
+def place(data: bytes, fault: str) -> Dict[str, Any]:
     """Where the first fault of the bytes is, as the arguments of Error. It is empty if they are many, which is slow to read here, or have another
-    first fault. The function `test` of fimulowen.set_faults or fimulowen.column_faults raises what it finds."""
+    first fault."""
     if len(data) > MOST:
         return {}
     try:
-        import_module(f".{format}_faults", __package__).test(Reader(data))
+        _test(Reader(data))
     except Found as found:
         return found.place if found.fault == fault else {}
     return {}
@@ -84,3 +84,112 @@ class Reader:
         need(width == int(found.max()).bit_length(), "LooseWidth", at, part)
         need(not bits[count * width :].any(), "Padding", at + size, part)
         return found
+
+
+def _test(data: Reader) -> None:
+    first = data.byte()
+    if first >= _SHORT:
+        _few(data, first - _SHORT)
+    else:
+        need(first in (5, 6), "BadVersion", 0)
+        at = data.at
+        count = data.number(_SHORT)
+        need(count <= _MOST, "TooLong", at)
+        (_array if first == 6 else _chunks)(data, count)
+    need(data.left() == 0, "Trailing", data.at)
+
+
+def _few(data: Reader, count: int) -> None:
+    ids: List[int] = [data.number()] if count else []
+    while len(ids) < count:
+        for code in data.group((len(ids) - 1) // 32, min(32, count - len(ids))).tolist():
+            ids.append(ids[-1] + code + 1)
+    for position, it in enumerate(ids):
+        need(it < 2**32, "NotSorted", None, None, position)
+
+
+def _array(data: Reader, count: int) -> None:
+    at = data.at
+    need(data.left() >= 4 * count, "Short", len(data.data))
+    ids = integers(data.rows(count, 4))
+    _increasing(ids, at, 4, 0, None)
+    need(len(np.unique(ids >> 16)) > count // 4, "LooseForm", at)
+
+
+def _increasing(numbers: np.ndarray, at: int, size: int, before: int, part: Optional[int]) -> None:
+    for i in np.flatnonzero(numbers[1:] <= numbers[:-1])[:1].tolist():
+        raise Found("NotSorted", at + size * (i + 1), part, before + i + 1)
+
+
+def _chunks(data: Reader, count: int) -> None:
+    at = data.at
+    chunks = data.number(1)
+    need(chunks <= min(count // 4, 1 << 16), "BadNumber", at)
+    sizes_at = data.at
+    sizes = data.byte()
+    end_size, sum_size = sizes % 16, sizes // 16
+    need(1 <= end_size <= 4 and 1 <= sum_size <= 4, "BadSizes", sizes_at)
+    need(data.left() >= chunks * (2 + end_size + sum_size), "Short", len(data.data))
+    places = data.at, data.at + 2 * chunks, data.at + (2 + end_size) * chunks
+    keys, ends, sums = (integers(data.rows(chunks, size)).astype("i8") for size in (2, end_size, sum_size))
+    counts, lengths = np.diff(sums, prepend=0), np.diff(ends, prepend=0)
+    _directory(keys, counts, lengths, int(sums[-1]) == count, places, (end_size, sum_size))
+    least = [max(1, (int(it).bit_length() + 7) // 8) for it in (ends[-1], count)]
+    need([end_size, sum_size] == least, "BadSizes", sizes_at)
+    need(data.left() >= int(ends[-1]), "Short", len(data.data))
+    for m, (ids, length) in enumerate(zip(counts.tolist(), lengths.tolist())):
+        _body(data.data[data.at : data.at + length], ids, m, data.at, int(sums[m]) - ids)
+        data.at += length
+
+
+def _directory(
+    keys: np.ndarray, counts: np.ndarray, lengths: np.ndarray, is_all: bool, places: Tuple[int, int, int], sizes: Tuple[int, int]
+) -> None:
+    """The keys, the sums and the ends of the chunks: the first wrong one."""
+    bad_keys = np.diff(keys, prepend=-1) <= 0
+    bad_sums = (counts < 1) | (counts > 1 << 16)
+    bad_sums[-1] |= not is_all
+    bad_ends = (lengths < 1) | (lengths > 2 * counts)
+    for m in np.flatnonzero(bad_keys | bad_sums | bad_ends)[:1].tolist():
+        need(not bad_keys[m], "BadKey", places[0] + 2 * m, m)
+        need(not bad_sums[m], "BadSum", places[2] + sizes[1] * m, m)
+        raise Found("BadOffset", places[1] + sizes[0] * m, m)
+
+
+def _body(body: bytes, count: int, m: int, at: int, before: int) -> None:
+    """The body of chunk m, which has as many numbers, after so many ids."""
+    if len(body) == 2 * count:
+        numbers = integers(np.frombuffer(body, "u1").reshape(count, 2))
+        _increasing(numbers, at, 2, before, m)
+        need(_blocks_size(numbers) >= 2 * count, "LooseBody", at, m)
+    else:
+        need(_is_blocks(body, count), "BadBody", at, m)
+
+
+def _size(count: int) -> int:
+    """The bytes of a slice of as many numbers."""
+    return count if count < 32 else 32 if count < 256 else 0
+
+
+def _blocks_size(numbers: np.ndarray) -> int:
+    counts = np.unique(numbers >> 8, return_counts=True)[1].tolist()
+    return 1 + _size(len(counts)) + len(counts) + sum(map(_size, counts))
+
+
+def _is_blocks(body: bytes, count: int) -> bool:
+    high = body[0] + 1
+    at = 1 + _size(high)
+    counts = [it + 1 for it in body[at : at + high]]
+    if len(counts) < high or sum(counts) != count or len(body) != at + high + sum(map(_size, counts)):
+        return False
+    at, starts = at + high, [1]
+    for it in counts:
+        starts.append(at)
+        at += _size(it)
+    return all(_is_slice(body[start : start + _size(it)], it) for start, it in zip(starts, [high, *counts]))
+
+
+def _is_slice(part: bytes, count: int) -> bool:
+    if count < 32:
+        return all(one < other for one, other in zip(part, part[1:]))
+    return count == 256 or int.from_bytes(part, "little").bit_count() == count

@@ -3,16 +3,16 @@
 from __future__ import annotations
 
 import operator
-from functools import reduce
-from typing import Any, Iterable, Iterator, Optional, SupportsIndex, Tuple, Union
+from typing import Any, Callable, Iterable, Iterator, Optional, SupportsIndex, Tuple, Union
 
 import numpy as np
 import numpy.typing as npt
 
-from .id_set import INTERSECT, SUBTRACT, UNITE, XOR, IdSet, as_set, combined
+from .combining import intersect, subtract, symmetric_difference, unite
+from .id_set import IdSet, as_set
 
 # A set, or a call with its operands.
-_Node = Union[IdSet, Tuple[int, Tuple[Any, ...]]]
+_Node = Union[IdSet, Tuple[Callable[..., np.ndarray], Tuple[Any, ...]]]
 _LEAST, _MOST, _FEW, _MANY = 1 << 16, 1 << 24, 1 << 12, 1 << 17
 
 
@@ -30,19 +30,19 @@ class Query:
         self._node: _Node = ids._node if isinstance(ids, Query) else as_set(ids)
 
     def __and__(self, other: Iterable[Any]) -> Query:
-        return _joined(INTERSECT, self, other)
+        return _joined(intersect, self, other)
 
     def __or__(self, other: Iterable[Any]) -> Query:
-        return _joined(UNITE, self, other)
+        return _joined(unite, self, other)
 
     def __sub__(self, other: Iterable[Any]) -> Query:
-        return _joined(SUBTRACT, self, other)
+        return _joined(subtract, self, other)
 
     def __xor__(self, other: Iterable[Any]) -> Query:
-        return _joined(XOR, self, other)
+        return _joined(symmetric_difference, self, other)
 
     def __rsub__(self, other: Iterable[Any]) -> Query:
-        return _joined(SUBTRACT, other, self)
+        return _joined(subtract, other, self)
 
     __rand__, __ror__, __rxor__ = __and__, __or__, __xor__
 
@@ -52,7 +52,7 @@ class Query:
         while low < end:
             found = _within(self._node, low, low + width)
             if len(found):
-                yield found.unpack()
+                yield found
             low += width
             width = min(4 * width, _MOST) if len(found) < _FEW else max(width // 4, _LEAST) if len(found) > _MANY else width
 
@@ -82,12 +82,12 @@ class Query:
         return np.asarray(self.unpack(), dtype)
 
 
-def _joined(call: int, one: Any, other: Any) -> Any:
+def _joined(call: Callable[..., np.ndarray], one: Any, other: Any) -> Any:
     """A query of two operands. Those of a chain, as `a | b | c`, are operands of one call."""
     if not hasattr(one, "__iter__") or not hasattr(other, "__iter__"):
         return NotImplemented
     first, last, made = Query(one)._node, Query(other)._node, Query(())
-    before = first[1] if not isinstance(first, IdSet) and first[0] == call else (first,)
+    before = first[1] if not isinstance(first, IdSet) and first[0] is call else (first,)
     made._node = (call, (*before, last))
     return made
 
@@ -98,20 +98,20 @@ def _end(node: _Node) -> int:
         return node.max() + 1 if node else 0
     call, operands = node
     ends = [_end(it) for it in operands]
-    return min(ends) if call == INTERSECT else ends[0] if call == SUBTRACT else max(ends)
+    return min(ends) if call is intersect else ends[0] if call is subtract else max(ends)
 
 
-def _within(node: _Node, low: int, high: int) -> IdSet:
+def _within(node: _Node, low: int, high: int) -> npt.NDArray[np.uint32]:
     """The ids of the node from `low` up to `high`."""
     if isinstance(node, IdSet):
-        return IdSet._packed(node.range(low, high))
+        return node.range(low, high)
     call, operands = node
-    if call == INTERSECT:
+    if call is intersect:
         # The first operand is the only set that is cut to the range: the shortest, if there is no tree.
         operands = tuple(sorted(operands, key=lambda it: len(it) if isinstance(it, IdSet) else -1))
-    found = [_within(operands[0], low, high)]
-    for it in operands[1:]:
-        if call in (INTERSECT, SUBTRACT) and not found[0]:
-            return found[0]
-        found.append(it if call in (INTERSECT, SUBTRACT) and isinstance(it, IdSet) else _within(it, low, high))
-    return reduce(operator.xor, found) if call == XOR else IdSet._packed(combined(call, found))
+    is_cut, found = call in (intersect, subtract), []
+    for it in operands:
+        if is_cut and found and not found[0]:
+            return found[0].unpack()
+        found.append(it if is_cut and found and isinstance(it, IdSet) else IdSet._packed(_within(it, low, high)))
+    return call(*found)

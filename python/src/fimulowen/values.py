@@ -145,32 +145,28 @@ def _u32_of(part: np.ndarray, at: int) -> np.ndarray:
 
 
 def _id_of(it: Any, at: int) -> int:
-    value = _integer(it, at)
-    return value if _fits(value) else _refuse(at, it)
-
-
-def _fits(value: int) -> bool:
-    return 0 <= value <= _GREATEST
+    value = integer(it, at)
+    return value if 0 <= value <= _GREATEST else _refuse(at, it)
 
 
 def _i64_of(part: np.ndarray, at: int) -> np.ndarray:
     """The values of a part as int64, and the least one in place of one that does not fit."""
     if part.dtype == object:
-        wide = [_integer(it, at + i) for i, it in enumerate(part)]
+        wide = [integer(it, at + i) for i, it in enumerate(part)]
         return np.array([it if _LEAST <= it < -_LEAST else _LEAST for it in wide], "=i8")
     return np.where(part >= -_LEAST, _LEAST, part.astype("=i8")) if part.dtype.kind == "u" else part.astype("=i8")
 
 
-def _integer(it: Any, at: int) -> int:
-    if isinstance(it, (bool, np.bool_)):
-        _refuse(at, it)
-    try:
-        return operator.index(it)
-    except TypeError:
-        _refuse(at, it)
+def integer(it: Any, at: int) -> int:
+    """An integer of any size. TypeError with its position if it is none."""
+    if not isinstance(it, (bool, np.bool_)):
+        try:
+            return operator.index(it)
+        except TypeError:
+            pass
+    raise TypeError(f"position {at}: {it!r} is not an integer")
 
 
 def _refuse(at: int, it: Any) -> NoReturn:
-    if isinstance(it, (bool, np.bool_)) or not hasattr(it, "__index__"):
-        raise TypeError(f"position {at}: {it!r} is not an integer")
+    integer(it, at)
     raise OverflowError(f"position {at}: {it} is below 0 or above {_GREATEST}")

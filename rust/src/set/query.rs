@@ -5,12 +5,42 @@ use alloc::vec::Vec;
 use core::fmt;
 use core::ops::{BitAnd, BitOr, BitXor, Sub};
 
-use super::{IdSet, IdSetBuf, QueryError, QueryIds};
+use super::query_ids::{Later, QueryIds};
+use super::{IdSet, IdSetBuf};
 use crate::sets;
 use crate::sets::{Operation, Step};
 
 /// The most operands that wait at once.
 const MOST_WAITING: usize = 64;
+
+/// Why a query was not run.
+///
+/// ```
+/// use bitpacking::set::{IdSetBuf, Query, QueryError};
+///
+/// let cats = IdSetBuf::pack(&[1, 4, 6, 9]).unwrap();
+/// let deep = (0..64).fold(Query::from(&cats), |query, _| Query::from(&cats) - query);
+/// assert_eq!(deep.count(), Err(QueryError::TooDeep));
+/// ```
+#[derive(Clone, Copy, PartialEq, Eq, Debug)]
+#[non_exhaustive]
+pub enum QueryError {
+    /// More than 64 operands wait at once.
+    TooDeep,
+    /// There is no memory for the operands that wait.
+    Memory,
+}
+
+impl fmt::Display for QueryError {
+    fn fmt(&self, f: &mut fmt::Formatter<'_>) -> fmt::Result {
+        f.write_str(match self {
+            QueryError::TooDeep => "more than 64 operands wait for operations",
+            QueryError::Memory => "out of memory",
+        })
+    }
+}
+
+impl core::error::Error for QueryError {}
 
 /// Which ids are wanted: the ids of a set, or of any tree of sets that are joined by [`and`](Query::and), [`or`](Query::or),
 /// [`and_not`](Query::and_not) and [`xor`](Query::xor), also as `&`, `|`, `-` and `^`.
@@ -144,7 +174,7 @@ impl<'a> Query<'a> {
         self.sets.truncate(sets);
     }
 
-    /// Returns a cursor at the first id, which is an iterator too. Allocates 8 KB for each operand that waits at once.
+    /// Returns a cursor at the first id, which is an iterator too. Allocates 8 KB for each operand that waits at once, and nothing for a set alone.
     ///
     /// # Errors
     ///
@@ -159,7 +189,15 @@ impl<'a> Query<'a> {
     /// # Ok::<(), bitpacking::set::QueryError>(())
     /// ```
     pub fn ids(&self) -> Result<QueryIds<'_>, QueryError> {
-        Ok(QueryIds::new(sets::Query::new(&self.sets, &self.steps)?))
+        if let [set] = self.sets[..] {
+            return Ok(QueryIds::new(Later::Set(set, 0)));
+        }
+        let query = sets::Query::new(&self.sets, &self.steps).map_err(|fault| match fault {
+            sets::QueryError::Memory => QueryError::Memory,
+            // The steps have no other fault, since each joins two queries.
+            _ => QueryError::TooDeep,
+        })?;
+        Ok(QueryIds::new(Later::Query(query)))
     }
 
     /// Returns all ids, in increasing order. Allocates as [`ids`](Query::ids) does, and 4 bytes for each id.

@@ -23,16 +23,42 @@ const MOST: usize = 256;
 /// # Ok::<(), bitpacking::set::QueryError>(())
 /// ```
 pub struct QueryIds<'a> {
-    /// What is after the ids that were found.
-    later: sets::Query<'a>,
+    later: Later<'a>,
     found: [u32; MOST],
     /// The index of the id here, and how many were found. They are equal only after the last id.
     at: usize,
     len: usize,
 }
 
+/// What is after the ids that were found.
+pub(super) enum Later<'a> {
+    /// The ids of a set alone from a position on, which a walk over bitmaps would find many times slower if they are far apart.
+    Set(sets::IdSet<'a>, usize),
+    Query(sets::Query<'a>),
+}
+
+impl Later<'_> {
+    fn next_ids(&mut self, ids: &mut [u32]) -> usize {
+        match self {
+            Later::Set(set, position) => {
+                let len = set.copy_range(*position, ids);
+                *position += len;
+                len
+            }
+            Later::Query(query) => query.next_ids(ids),
+        }
+    }
+
+    fn seek(&mut self, target: u32) {
+        match self {
+            Later::Set(set, position) => *position = set.rank(target).max(*position),
+            Later::Query(query) => query.seek(target),
+        }
+    }
+}
+
 impl<'a> QueryIds<'a> {
-    pub(super) fn new(later: sets::Query<'a>) -> Self {
+    pub(super) fn new(later: Later<'a>) -> Self {
         let mut ids = QueryIds { later, found: [0; MOST], at: 0, len: 0 };
         ids.find();
         ids

@@ -23,7 +23,6 @@ operations! {
     fn and(a: Words, b: Words) -> Words { unsafe { _mm256_and_si256(a, b) } }
     fn add(a: Words, b: Words) -> Words { unsafe { _mm256_add_epi32(a, b) } }
     fn sub(a: Words, b: Words) -> Words { unsafe { _mm256_sub_epi32(a, b) } }
-    fn eq(a: Words, b: Words) -> Words { unsafe { _mm256_cmpeq_epi32(a, b) } }
     fn ge(a: Words, b: Words) -> Words { unsafe { _mm256_cmpeq_epi32(_mm256_max_epu32(a, b), a) } }
     fn bits(a: Words) -> u32 { unsafe { _mm256_movemask_ps(_mm256_castsi256_ps(a)) as u32 } }
     fn widen(bytes: [u8; 8]) -> Words { unsafe { _mm256_cvtepu8_epi32(_mm_loadl_epi64(bytes.as_ptr().cast())) } }
@@ -41,13 +40,6 @@ operations! {
     fn equal_bytes(a: Words, b: Words) -> Words { unsafe { _mm256_cmpeq_epi8(a, b) } }
     fn at_most_bytes(a: Words, b: Words) -> Words { unsafe { _mm256_cmpeq_epi8(_mm256_min_epu8(a, b), a) } }
     fn high_bits(a: Words) -> u32 { unsafe { _mm256_movemask_epi8(a) as u32 } }
-    fn less_bytes(a: Words, b: Words) -> Words {
-        // AVX2 compares bytes with a sign alone.
-        unsafe {
-            let sign = _mm256_set1_epi8(i8::MIN);
-            _mm256_cmpgt_epi8(_mm256_xor_si256(b, sign), _mm256_xor_si256(a, sign))
-        }
-    }
     fn select(mask: Words, a: Words, b: Words) -> Words { unsafe { _mm256_blendv_epi8(b, a, mask) } }
     /// The first four words, and the others.
     fn halves_of(a: Words) -> (__m128i, __m128i) { unsafe { (_mm256_castsi256_si128(a), _mm256_extracti128_si256::<1>(a)) } }

@@ -37,7 +37,6 @@ operations! {
     fn and(a: Words, b: Words) -> Words { (four::and(a.0, b.0), four::and(a.1, b.1)) }
     fn add(a: Words, b: Words) -> Words { (four::add(a.0, b.0), four::add(a.1, b.1)) }
     fn sub(a: Words, b: Words) -> Words { (four::sub(a.0, b.0), four::sub(a.1, b.1)) }
-    fn eq(a: Words, b: Words) -> Words { (four::eq(a.0, b.0), four::eq(a.1, b.1)) }
     fn ge(a: Words, b: Words) -> Words { (four::ge(a.0, b.0), four::ge(a.1, b.1)) }
     fn bits(a: Words) -> u32 { four::bits(a.0) | four::bits(a.1) << 4 }
     fn widen(bytes: [u8; 8]) -> Words { four::widen(bytes) }
@@ -49,7 +48,6 @@ operations! {
     fn equal_bytes(a: Words, b: Words) -> Words { (four::equal_bytes(a.0, b.0), four::equal_bytes(a.1, b.1)) }
     fn at_most_bytes(a: Words, b: Words) -> Words { (four::at_most_bytes(a.0, b.0), four::at_most_bytes(a.1, b.1)) }
     fn high_bits(a: Words) -> u32 { four::high_bits(a.0) | four::high_bits(a.1) << 16 }
-    fn less_bytes(a: Words, b: Words) -> Words { (four::less_bytes(a.0, b.0), four::less_bytes(a.1, b.1)) }
     fn select(mask: Words, a: Words, b: Words) -> Words { (four::select(mask.0, a.0, b.0), four::select(mask.1, a.1, b.1)) }
     /// The first four words, and the others.
     fn halves_of(a: Words) -> (four::Words, four::Words) { a }

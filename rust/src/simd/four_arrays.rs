@@ -56,8 +56,6 @@ operations! {
     fn add(a: Words, b: Words) -> Words { of(|n| a[n].wrapping_add(b[n])) }
     /// The differences modulo 2^32.
     fn sub(a: Words, b: Words) -> Words { of(|n| a[n].wrapping_sub(b[n])) }
-    /// All bits of the words that are equal.
-    fn eq(a: Words, b: Words) -> Words { mask(a, b, u32::eq) }
     /// All bits of the words that are greater or equal.
     fn ge(a: Words, b: Words) -> Words { mask(a, b, u32::ge) }
     /// A bit for each word of a comparison, the lowest for the first word.

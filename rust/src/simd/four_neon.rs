@@ -22,7 +22,6 @@ operations! {
     fn and(a: Words, b: Words) -> Words { unsafe { vandq_u32(a, b) } }
     fn add(a: Words, b: Words) -> Words { unsafe { vaddq_u32(a, b) } }
     fn sub(a: Words, b: Words) -> Words { unsafe { vsubq_u32(a, b) } }
-    fn eq(a: Words, b: Words) -> Words { unsafe { vceqq_u32(a, b) } }
     fn ge(a: Words, b: Words) -> Words { unsafe { vcgeq_u32(a, b) } }
     fn bits(a: Words) -> u32 { unsafe { vaddvq_u32(vandq_u32(a, vld1q_u32([1, 2, 4, 8].as_ptr()))) } }
     fn widen(bytes: [u8; 8]) -> (Words, Words) {

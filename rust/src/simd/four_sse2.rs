@@ -24,7 +24,6 @@ operations! {
     fn and(a: Words, b: Words) -> Words { unsafe { _mm_and_si128(a, b) } }
     fn add(a: Words, b: Words) -> Words { unsafe { _mm_add_epi32(a, b) } }
     fn sub(a: Words, b: Words) -> Words { unsafe { _mm_sub_epi32(a, b) } }
-    fn eq(a: Words, b: Words) -> Words { unsafe { _mm_cmpeq_epi32(a, b) } }
     /// SSE2 compares words with a sign alone.
     #[cfg(not(target_feature = "sse4.1"))]
     fn ge(a: Words, b: Words) -> Words {

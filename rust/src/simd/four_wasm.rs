@@ -19,7 +19,6 @@ operations! {
     fn and(a: Words, b: Words) -> Words { v128_and(a, b) }
     fn add(a: Words, b: Words) -> Words { u32x4_add(a, b) }
     fn sub(a: Words, b: Words) -> Words { u32x4_sub(a, b) }
-    fn eq(a: Words, b: Words) -> Words { u32x4_eq(a, b) }
     fn ge(a: Words, b: Words) -> Words { u32x4_ge(a, b) }
     fn bits(a: Words) -> u32 { u32x4_bitmask(a) as u32 }
     fn widen(bytes: [u8; 8]) -> (Words, Words) {

@@ -99,8 +99,8 @@ macro_rules! calls {
             let (a, b) = (load(&given.a), load(&given.b));
             let binary: &[(&str, fn(Words, Words) -> Words)] = &[
                 $((stringify!($shuffle), $shuffle),)*
-                ("or", or), ("and", and), ("add", add), ("sub", sub), ("eq", eq), ("ge", ge),
-                ("equal_bytes", equal_bytes), ("less_bytes", less_bytes), ("at_most_bytes", at_most_bytes),
+                ("or", or), ("and", and), ("add", add), ("sub", sub), ("ge", ge),
+                ("equal_bytes", equal_bytes), ("at_most_bytes", at_most_bytes),
             ];
             let mut returned: Vec<Returned> = binary.iter().map(|(name, call)| (*name, words_of(call(a, b)))).collect();
             returned.extend([
@@ -114,7 +114,7 @@ macro_rules! calls {
                 ("shr_bytes", words_of(shr_bytes(a, given.count % 8))),
                 $((stringify!($swizzle), words_of($swizzle(a))),)*
                 ("select", words_of(select(load_bytes(&given.mask), a, b))),
-                ("bits", bits(eq(a, b)).to_le_bytes().into()),
+                ("bits", bits(ge(a, b)).to_le_bytes().into()),
                 ("high_bits", high_bits(a).to_le_bytes().into()),
             ]);
             returned
@@ -153,13 +153,15 @@ fn array_of(a: super::four::Words) -> [u32; 4] {
 
 /// What only one of the two modules has.
 #[test]
-fn bytes_taken_and_widened_are_as_arrays() {
+fn bytes_taken_compared_and_widened_are_as_arrays() {
     for given in (0..ROUNDS).map(Given::<4, 16>::new) {
         let (bytes, indices) = (given.bytes, core::array::from_fn(|n| given.indices[n] % 8));
         assert_eq!(super::four::bytes_at(bytes, indices), four::bytes_at(bytes, indices), "{bytes:?} at {indices:?}");
         let found = super::four::bytes_at_16(super::four::load(&given.a), super::four::load_bytes(&given.indices));
         let right = four::bytes_at_16(given.a, four::load_bytes(&given.indices));
         assert_eq!(array_of(found), right, "{:x?} at {:?}", given.a, given.indices);
+        let less = super::four::less_bytes(super::four::load(&given.a), super::four::load(&given.b));
+        assert_eq!(array_of(less), four::less_bytes(given.a, given.b), "{given:x?}");
         let (low, high) = super::four::widen(bytes);
         assert_eq!((array_of(low), array_of(high)), four::widen(bytes), "{bytes:?}");
         let mut wide = [0; 8];

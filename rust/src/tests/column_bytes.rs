@@ -94,8 +94,6 @@ fn texts() {
     assert_eq!(format!("{:?}", column.iter()), "Iter { left: 3, .. }");
     assert_eq!(format!("{:?}", column.cursor()), "Cursor { position: 0, value: Some(5), .. }");
     assert_eq!(format!("{:?}", column.positions_between(3..7)), "Positions { range: 3..=6, .. }");
-    let error = io::Error::from(Column::open(&[]).unwrap_err());
-    assert_eq!((error.kind(), error.to_string()), (io::ErrorKind::InvalidData, Error::Short.to_string()));
 }
 
 /// A writer that has no room.

@@ -3,7 +3,7 @@
 use std::vec::Vec;
 
 use crate::column::{ColumnBuf, Kind};
-use crate::ranked::{CLASSES, Error, Term, best};
+use crate::ranked::{CLASSES, Error, Term, best, best_among};
 use crate::ranking;
 use crate::set::IdSetBuf;
 
@@ -44,11 +44,16 @@ fn found(words: &[Word], classes: &[u8], at_least: usize, most: usize) -> Vec<(u
     best(&terms, classes, at_least, most).iter().map(|it| (it.id, it.score)).collect()
 }
 
-/// What a scan of all documents finds.
-fn scanned(words: &[Word], classes: &[u8], at_least: usize) -> Vec<(u32, u64)> {
-    let last = words.iter().filter_map(|word| word.ids.last()).max().map_or(0, |last| last + 1);
+fn among(documents: &[u32], words: &[Word], classes: &[u8], most: usize) -> Vec<(u32, u64)> {
+    let table = table();
+    let terms: Vec<_> = words.iter().map(|word| word.term(&table)).collect();
+    best_among(documents, &terms, classes, most).unwrap().iter().map(|it| (it.id, it.score)).collect()
+}
+
+/// What a scan finds: the documents that have at least `at_least` of the words.
+fn scanned(documents: impl IntoIterator<Item = u32>, words: &[Word], classes: &[u8], at_least: usize) -> Vec<(u32, u64)> {
     let mut all = Vec::new();
-    for id in 0..last {
+    for id in documents {
         let (mut score, mut have) = (0, 0);
         for word in words {
             if let Ok(at) = word.ids.binary_search(&id) {
@@ -56,7 +61,7 @@ fn scanned(words: &[Word], classes: &[u8], at_least: usize) -> Vec<(u32, u64)> {
                 have += 1;
             }
         }
-        if have >= at_least.max(1) {
+        if have >= at_least {
             all.push((id, score));
         }
     }
@@ -77,6 +82,13 @@ fn worked_by_hand() {
     assert_eq!(found(&words, &classes, 2, 10), [(4, 600)]);
     assert_eq!(found(&words, &classes, 3, 10), []);
     assert_eq!(found(&[], &classes, 1, 10), []);
+    // Document 5 has none of the words.
+    let given = [(4, 600), (9, 600), (7, 300), (5, 0)];
+    for most in [0, 1, 2, 3, 4, 10] {
+        assert_eq!(among(&[4, 5, 7, 9], &words, &classes, most), given[..most.min(4)]);
+    }
+    assert_eq!(among(&[], &words, &classes, 10), []);
+    assert_eq!(best_among(&[4, 5, 5, 9, 7], &[], &classes, 10).err(), Some(Error::NotSorted(2)));
 }
 
 /// The greatest id, and a block that ends with it.
@@ -108,10 +120,16 @@ fn same_as_a_scan() {
             })
             .collect();
         for at_least in [1, 2, words.len()] {
-            let all = scanned(&words, &classes, at_least);
+            let all = scanned(0..documents as u32, &words, &classes, at_least);
             for most in [1, 10, 129, all.len()] {
                 assert!(found(&words, &classes, at_least, most) == all[..most.min(all.len())], "round {round}");
             }
+        }
+        let one_of = [1, 2, 9, 60, 700][random(5) as usize];
+        let given: Vec<u32> = (0..documents as u32 + 100).filter(|_| random(one_of) == 0).collect();
+        let all = scanned(given.iter().copied(), &words, &classes, 0);
+        for most in [0, 1, 10, 129, all.len()] {
+            assert!(among(&given, &words, &classes, most) == all[..most.min(all.len())], "round {round}");
         }
     }
 }

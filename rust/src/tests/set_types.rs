@@ -11,8 +11,8 @@ use core::panic::UnwindSafe;
 use std::collections::HashSet;
 use std::io;
 
-use crate::StableBytes;
 use crate::set::{Error, IdSet, IdSetBuf, IntoIter, Iter, Query, QueryError, QueryIds, SetBuilder, SetCursor};
+use crate::{StableBytes, chain, column, ranked};
 
 #[test]
 fn shared_by_threads() {
@@ -97,8 +97,25 @@ fn converted() {
     assert_eq!((IdSetBuf::try_from(bytes.to_vec()).unwrap(), AsRef::<[u8]>::as_ref(&set)), ((*set).to_owned(), bytes));
     let opened: &IdSet = set.as_ref();
     assert_eq!((opened.iter().collect::<BTreeSet<u32>>(), AsRef::<[u8]>::as_ref(opened)), (BTreeSet::from([5]), bytes));
-    let error = io::Error::from(IdSet::open(&[]).unwrap_err());
-    assert_eq!((error.kind(), format!("{error}").as_str()), (io::ErrorKind::InvalidData, "bytes are missing"));
+}
+
+/// As `?` converts them in a function that reads a file.
+#[test]
+fn errors_of_io() {
+    for (error, kind, shown) in [
+        (io::Error::from(IdSet::open(&[]).unwrap_err()), io::ErrorKind::InvalidData, "bytes are missing"),
+        (column::Column::open(&[]).unwrap_err().into(), io::ErrorKind::InvalidData, "bytes are missing"),
+        (chain::Error::BadWidth.into(), io::ErrorKind::InvalidData, "a width is above 32"),
+        (ranked::Error::OtherLength.into(), io::ErrorKind::InvalidData, "there are more documents than counts, or fewer"),
+        (QueryError::Memory.into(), io::ErrorKind::InvalidInput, "out of memory"),
+        (
+            column::ColumnBuf::default().gather(&[7]).unwrap_err().into(),
+            io::ErrorKind::InvalidInput,
+            "position 7, at index 0, is not in the column",
+        ),
+    ] {
+        assert_eq!((error.kind(), format!("{error}").as_str()), (kind, shown));
+    }
 }
 
 /// A writer without room.

@@ -56,7 +56,7 @@ impl Layout {
         let first = tokens.iter().filter(|it| it.is_code()).find(|it| !it.is("pub")).map_or("", |it| it.text);
         let vectors = tokens.iter().any(|it| it.is("Vec") || it.kind == Kind::Made && it.text.starts_with("Vec::"));
         let grows = tokens.windows(2).any(|it| it[0].kind == Kind::Made && it[0].text == "try_" && !it[1].is("reserve"));
-        let indexes = tokens.iter().any(|it| it.kind == Kind::Made && it.text.starts_with(".proved_at"));
+        let indexes = tokens.iter().any(|it| it.kind == Kind::Made && it.text.starts_with(".proved_"));
         let imports =
             [(vectors, "use alloc::vec::Vec;"), (grows, "use crate::growing::Growing;"), (indexes, "use crate::index::Proved;")];
         for (_, name) in imports.iter().filter(|it| it.0) {

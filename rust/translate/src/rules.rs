@@ -31,7 +31,7 @@ fn add_group";
 /// Calls of a vector that say whether there is memory.
 const GROWING: [&str; 4] = ["push", "extend_from_slice", "reserve", "resize"];
 /// Enums of errors, to which a later version may add one.
-const ERRORS: [&str; 3] = ["SetError", "ColumnError", "QueryError"];
+const ERRORS: [&str; 2] = ["SetError", "ColumnError"];
 /// Words that only the phrases above may have.
 const LEFT: [&str; 6] = ["Drop", "Global", "Model", "alloc", "prove", "std"];
 

@@ -5,7 +5,7 @@ use std::path::Path;
 use crate::Wrong;
 use crate::paths::Module;
 use crate::rules::{Change, applied};
-use crate::tokens::{Kind, Token, after_space, close, last_code, phrase};
+use crate::tokens::{Kind, Token, after_space, close, code_from, last_code, phrase};
 
 /// The files and folders, by module: those that are faster without the tests.
 pub const FILES: [(&str, &[&str]); 5] = [
@@ -50,7 +50,32 @@ pub fn names(module: Module, path: &Path) -> bool {
 
 /// The tokens with a call for each index of a variable, a field, or an item of them. Any other index, as of a call's result, is still tested.
 pub fn in_calls<'a>(tokens: &[Token<'a>]) -> Result<Vec<Token<'a>>, Wrong> {
-    applied(tokens, &[&indexes])
+    applied(tokens, &[&integers, &indexes])
+}
+
+/// An integer of bytes that follow each other, `from_le_bytes([bytes[at], bytes[at + 1]])`, is loaded at once: the compiler may load it byte by byte.
+fn integers<'a>(tokens: &[Token<'a>], at: usize) -> Change<'a> {
+    let Some(list) = phrase(tokens, at, "from_le_bytes ( [").map(|end| end - 1) else {
+        return Ok(None);
+    };
+    let Some(open) = phrase(tokens, after_space(tokens, list + 1), "$ [").map(|end| end - 1) else {
+        return Ok(None);
+    };
+    let code = |part: &[Token]| part.iter().filter(|it| it.is_code()).map(|it| it.text).collect::<String>();
+    let (name, index) = (tokens[open - 1], &tokens[open + 1..close(tokens, open)]);
+    let (all, first) = (code(&tokens[list + 1..close(tokens, list)]), code(index));
+    let follows = |(number, item): (usize, &str)| match (number, first.parse::<usize>()) {
+        (_, Ok(first)) => item == format!("{}[{}]", name.text, first + number),
+        (0, _) => item == format!("{}[{first}]", name.text),
+        _ => item == format!("{}[{first}+{number}]", name.text),
+    };
+    if !all.trim_end_matches(',').split(',').enumerate().all(follows) {
+        return Ok(None);
+    }
+    let mut made = vec![tokens[at], Token::made("(*unsafe { ", name.line), name, Token::made(".proved_items(", name.line)];
+    made.extend(in_calls(index)?);
+    made.push(Token::made(") })", name.line));
+    Ok(Some((made, code_from(tokens, close(tokens, list) + 1) + 1)))
 }
 
 /// What follows a name.

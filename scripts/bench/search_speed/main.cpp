@@ -1,11 +1,16 @@
 // Answers queries in each way, in turns: `search FOLDER ROUNDS`. All ways have to give the same ids. Prints lines with tabs: the bytes of each way,
-// and for each set of queries the least processor time of a round for a query. Of ranked queries only Xapian's time is measured here.
-#include "ways.hpp"
+// and for each set of queries the least processor time of a round for a query.
+#include "arrays.hpp"
+#include "sets.hpp"
+#include "ranking.hpp"
+#ifdef ROARING
+#include "roaring.hpp"
+#endif
+#ifdef XAPIAN
+#include "xapian.hpp"
+#endif
 
 #include <ctime>
-#include <map>
-
-namespace {
 
 double now()
 {
@@ -34,49 +39,46 @@ void compare(Way &right, Way &way, const std::vector<Query> &queries, size_t doc
     }
 }
 
-void measure(const Corpus &corpus, const char *file, std::vector<std::unique_ptr<Way>> &ways, int rounds, bool compared)
+void measure(const Corpus &corpus, const char *file, Ways &ways, int rounds)
 {
-    std::vector<std::string> order;
     std::map<std::string, std::vector<Query>> sets;
-    for (const Query &query : corpus.queries(file)) {
-        if (sets[query.set].empty())
-            order.push_back(query.set);
+    for (const Query &query : corpus.queries(file))
         sets[query.set].push_back(query);
-    }
-    std::vector<uint32_t> room(corpus.documents);
-    for (const std::string &set : order) {
+    std::vector<uint32_t> room(corpus.documents());
+    for (const auto &[set, queries] : sets) {
         std::vector<double> best(ways.size(), 1e9);
         for (auto &way : ways)
-            if (compared)
-                compare(*ways[0], *way, sets[set], corpus.documents);
+            if (way->is_compared)
+                compare(*ways[0], *way, queries, corpus.documents());
         for (int round = 0; round < rounds; round++)
             for (size_t i = 0; i < ways.size(); i++)
                 if (round < ways[i]->rounds)
-                    best[i] = std::min(best[i], timed(*ways[i], sets[set], room.data()));
+                    best[i] = std::min(best[i], timed(*ways[i], queries, room.data()));
         for (size_t i = 0; i < ways.size(); i++)
             printf("%s\t%s\t%s\t%.9f\n", file, set.c_str(), ways[i]->name, best[i]);
-        fflush(stdout);
     }
 }
-
-} // namespace
 
 int main(int, char **arguments)
 {
     Corpus corpus(arguments[1]);
-    std::vector<std::unique_ptr<Way>> ways, ranking;
-    ways.push_back(sets_way(corpus, false));
-    ways.push_back(sets_way(corpus, true));
-    ways.push_back(arrays_way(corpus));
+    Packed sets(corpus);
+    Tables tables(corpus);
+    Ways ways, ranking;
+    ways.push_back(std::make_unique<Sets>(sets, corpus.documents(), false));
+    ways.push_back(std::make_unique<Sets>(sets, corpus.documents(), true));
+    ways.push_back(std::make_unique<Arrays>(corpus));
+    ranking.push_back(std::make_unique<Ranked>(corpus, sets, tables));
+    ranking.push_back(std::make_unique<Scan>(corpus, tables));
 #ifdef ROARING
-    ways.push_back(roaring_way(corpus));
+    ways.push_back(std::make_unique<Roaring>(corpus));
 #endif
 #ifdef XAPIAN
-    ways.push_back(xapian_way(corpus, false));
-    ranking.push_back(xapian_way(corpus, true));
+    ways.push_back(std::make_unique<ByXapian>(corpus, false));
+    ranking.push_back(std::make_unique<ByXapian>(corpus, true));
 #endif
     for (auto &way : ways)
         printf("bytes\t\t%s\t%zu\n", way->name, way->bytes);
-    measure(corpus, "queries", ways, atoi(arguments[2]), true);
-    measure(corpus, "ranked", ranking, atoi(arguments[2]), false);
+    measure(corpus, "queries", ways, atoi(arguments[2]));
+    measure(corpus, "ranked", ranking, atoi(arguments[2]));
 }

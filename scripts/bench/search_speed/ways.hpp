@@ -1,14 +1,17 @@
-// The ids of all words of a corpus, queries over them, and what a way to keep them implements.
+// The words of a corpus, queries over them, and what a way to keep them implements.
 #pragma once
 #include <algorithm>
+#include <cmath>
 #include <cstdint>
 #include <cstdio>
 #include <cstdlib>
 #include <cstring>
 #include <fstream>
+#include <map>
 #include <memory>
 #include <sstream>
 #include <string>
+#include <utility>
 #include <vector>
 
 inline void fail(const std::string &what)
@@ -29,25 +32,27 @@ struct Ids {
     size_t len;
 };
 
-// What search_speed.py writes to a folder: how many documents each word has, and these, word after word.
+// What search_speed.py writes to a folder: how many documents each word has; these, and how often each has it, word after word; and of each
+// document the class of its length, which is eight times the logarithm of base 2.
 struct Corpus {
     std::string folder;
-    std::vector<uint32_t> ids;
+    std::vector<uint32_t> ids = numbers<uint32_t>("ids"), counts = numbers<uint32_t>("counts");
+    std::vector<uint8_t> classes = numbers<uint8_t>("classes");
     std::vector<size_t> starts{0};
-    size_t documents = 0;
 
-    explicit Corpus(const std::string &from) : folder(from), ids(numbers("ids"))
+    explicit Corpus(const std::string &from) : folder(from)
     {
-        for (uint32_t len : numbers("lens"))
+        for (uint32_t len : numbers<uint32_t>("lens"))
             starts.push_back(starts.back() + len);
-        for (uint32_t id : ids)
-            documents = std::max<size_t>(documents, id + 1);
     }
 
+    size_t documents() const { return classes.size(); }
     size_t words() const { return starts.size() - 1; }
-    Ids of(size_t word) const { return {&ids[starts[word]], starts[word + 1] - starts[word]}; }
+    size_t len(size_t word) const { return starts[word + 1] - starts[word]; }
+    Ids of(size_t word) const { return {&ids[starts[word]], len(word)}; }
+    const uint32_t *counts_of(size_t word) const { return &counts[starts[word]]; }
 
-    std::vector<Query> queries(const char *name) const
+    std::vector<Query> queries(const std::string &name) const
     {
         std::vector<Query> found;
         std::ifstream file(folder + '/' + name);
@@ -63,12 +68,12 @@ struct Corpus {
     }
 
   private:
-    std::vector<uint32_t> numbers(const char *name) const
+    template <typename Number> std::vector<Number> numbers(const char *name) const
     {
         std::ifstream file(folder + '/' + name, std::ios::binary | std::ios::ate);
-        std::vector<uint32_t> found(file.tellg() / 4);
+        std::vector<Number> found(file.tellg() / sizeof(Number));
         file.seekg(0);
-        file.read(reinterpret_cast<char *>(found.data()), 4 * found.size());
+        file.read(reinterpret_cast<char *>(found.data()), sizeof(Number) * found.size());
         return found;
     }
 };
@@ -79,19 +84,13 @@ struct Way {
     // How many rounds count, and of how many queries it takes one.
     int rounds = 99;
     size_t one_of = 1;
+    // Whether it has to give the ids of the first way.
+    bool is_compared = true;
 
     explicit Way(const char *its) : name(its) {}
     virtual ~Way() = default;
-    // Writes the ids that answer to `out`, in order, which has room for all documents. Returns how many they are.
+    // Writes the ids that answer to `out`, which has room for all documents: in order, or the best first. Returns how many they are.
     virtual size_t answer(const Query &query, uint32_t *out) = 0;
 };
 
-// The ways, those of packages that are not installed left out.
-std::unique_ptr<Way> sets_way(const Corpus &corpus, bool opening);
-std::unique_ptr<Way> arrays_way(const Corpus &corpus);
-#ifdef ROARING
-std::unique_ptr<Way> roaring_way(const Corpus &corpus);
-#endif
-#ifdef XAPIAN
-std::unique_ptr<Way> xapian_way(const Corpus &corpus, bool ranks);
-#endif
+using Ways = std::vector<std::unique_ptr<Way>>;

@@ -19,9 +19,9 @@ pub(crate) fn answer_upgrade<P: BitPacker>(
 ) -> Result<Answer, AllocError>
     ensures { IfOk result (λ answer. IsReply P.lanes (Upgrade bytes.now) (printed answer)) }
 {
-    let mut text = Vec::new(alloc);
-    match upgrade(packer, bytes, &mut text) {
-        Ok(()) => format_bytes(alloc, text.as_slice()),
+    let mut encoding = Vec::new(alloc);
+    match upgrade(packer, bytes, &mut encoding) {
+        Ok(()) => format_bytes(alloc, encoding.as_slice()),
         Err(ListError::Memory) => Err(AllocError),
         Err(fault) => refuse(alloc, LIST_REFUSALS + fault.number()),
     }

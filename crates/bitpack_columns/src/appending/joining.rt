@@ -1,7 +1,7 @@
 //! The values of a column and of another one after it, each of these with a base added, written as one column.
 
 ghost use Rattle.std.specs.Prelude.{◌≡◌, ◌⊎◌, ◌≤◌, ◌++◌, Err, IfErr, MatchOption, OnErr, OnOk, length, vec_capacity};
-ghost use Rattle.bitpack_columns.specs.Columns.{IsColumn, text};
+ghost use Rattle.bitpack_columns.specs.Columns.{IsColumn, encoding};
 ghost use Rattle.bitpack_columns.specs.Errors.{Finds};
 ghost use Rattle.bitpack_columns.specs.Opened.{kind_of, values};
 ghost use Rattle.bitpack_columns.specs.Written.{WritesUnless, joined_refusal, overflow, raised};
@@ -51,12 +51,12 @@ pub fn join(
 ) -> Result<(), ColumnError>
     ensures column { OnOk result (IsColumn (kind_of column.now) (values column.now ++ raised base (values other.now))) }
     ensures ok { OnOk result (out.new.items
-        ≡ out.old.items ++ text (kind_of column.now) (values column.now ++ raised base (values other.now))) }
+        ≡ out.old.items ++ encoding (kind_of column.now) (values column.now ++ raised base (values other.now))) }
     // A fault is not found if there is no memory for the values of the other column.
     ensures fault { MatchOption (joined_refusal (kind_of column.now) (values column.now) base (values other.now))
         (IfErr result (λ e. e ≡ ColumnError.Memory)) (λ fault. (result ≡ Err fault) ⊎ (result ≡ Err ColumnError.Memory)) }
     ensures unchanged { OnErr result (out.new.items ≡ out.old.items) }
-    ensures kept { OnErr result (vec_capacity out.new ≡ vec_capacity out.old) }
+    ensures capacity { OnErr result (vec_capacity out.new ≡ vec_capacity out.old) }
 {
     let mut more = Vec::new(alloc);
     other.append_to(&mut more)?;

@@ -35,20 +35,20 @@ pub(crate) fn plan_after(
         result.len result.measured.total result.measured.greatest result.measured.last
         widths.new (take result.header header.new) (take result.tail tail.new) }
 {
-    let kept = column.blocks();
+    let copied = column.blocks();
     let count = filled.len() + later.len();
-    let blocks = kept + count / BLOCK_LEN;
+    let blocks = copied + count / BLOCK_LEN;
     let before = value_after(column, filled, later);
     let measured = measure_both(column.kind, before, filled, later, widths);
     let all = Measured {
-        total: kept_total(column) as usize + measured.total,
+        total: copied_total(column) as usize + measured.total,
         greatest: front_greatest(column).max(measured.greatest),
         last: measured.last,
         rises: measured.rises,
     };
     let left = &later[BLOCK_LEN * (later.len() / BLOCK_LEN)..];
     let first = first_of_all(column, filled, later);
-    let header_len = write_header(column.kind, BLOCK_LEN * kept + count, first, header);
+    let header_len = write_header(column.kind, BLOCK_LEN * copied + count, first, header);
     let tail_len = write_tail(column.kind, blocks, all.last, left, tail);
     Plan {
         len: header_len + blocks_len(blocks, all) + tail_len,
@@ -87,7 +87,7 @@ fn measure_both(
 }
 
 /// The sum of the widths of the blocks of a column.
-pub(crate) fn kept_total(column: &Column) -> u32
+pub(crate) fn copied_total(column: &Column) -> u32
     ensures { result ≡ sum_to (width_after (kind_of column.now) (first_value column.now) (values column.now))
         (blocks_of column.now) }
 {

@@ -1,12 +1,12 @@
 //! Writes the whole blocks of a column, and packed values after them. They are a filled block or none, and later values.
 
 ghost use Rattle.std.specs.Prelude.{◌≡◌, ◌⊎◌, ◌*◌, ◌/◌, ◌^◌, ◌<◌, ◌≤◌, ◌++◌, length, slice_index};
-ghost use Rattle.bitpack_columns.specs.Columns.{IsColumn, blocks_text, sum_to, text};
-ghost use Rattle.bitpack_columns.specs.Measured.{AreWidths, IsMeasured, IsPlanned, bodies_text, ends_text, extended, first_value, marks_text, packed_after, width_after};
+ghost use Rattle.bitpack_columns.specs.Columns.{IsColumn, blocks_encoding, encoding, sum_to};
+ghost use Rattle.bitpack_columns.specs.Measured.{AreWidths, IsMeasured, IsPlanned, bodies_encoding, ends_encoding, extended, first_value, marks_encoding, packed_after, width_after};
 ghost use Rattle.bitpack_columns.specs.Opened.{blocks_of, kind_of, values};
 ghost use Rattle.bitpack_columns.specs.Written.{AppendsColumn, WritesColumn};
 
-use crate::appending::planning::{kept_total, plan_after, value_after};
+use crate::appending::planning::{copied_total, plan_after, value_after};
 use crate::column::{BLOCK_LEN, Column};
 use crate::column_error::ColumnError;
 use crate::column_kind::ColumnKind;
@@ -139,7 +139,7 @@ fn write_after(
     requires planned { IsPlanned (kind_of column.now) (extended column.now (filled.now ++ later.now))
         (packed_after column.now (filled.now ++ later.now)) (filled.now ++ later.now)
         (length out.old) measured.total measured.greatest measured.last widths.now header.now tail.now }
-    ensures { out.new ≡ text (kind_of column.now) (extended column.now (filled.now ++ later.now)) }
+    ensures { out.new ≡ encoding (kind_of column.now) (extended column.now (filled.now ++ later.now)) }
 {
     let (front, rest) = out.split_at_mut(header.len());
     let (blocks, end) = rest.split_at_mut(rest.len() - tail.len());
@@ -169,22 +169,22 @@ fn write_blocks_after(
     requires widths { AreWidths (kind_of column.now) (packed_after column.now (filled.now ++ later.now))
         (filled.now ++ later.now) widths.now }
     requires size { length out.old
-        ≡ length (blocks_text (kind_of column.now) (extended column.now (filled.now ++ later.now))) }
-    ensures { out.new ≡ blocks_text (kind_of column.now) (extended column.now (filled.now ++ later.now)) }
+        ≡ length (blocks_encoding (kind_of column.now) (extended column.now (filled.now ++ later.now))) }
+    ensures { out.new ≡ blocks_encoding (kind_of column.now) (extended column.now (filled.now ++ later.now)) }
 {
-    let kept = column.blocks();
-    let blocks = kept + (filled.len() + later.len()) / BLOCK_LEN;
-    let start = kept_total(column);
+    let copied = column.blocks();
+    let blocks = copied + (filled.len() + later.len()) / BLOCK_LEN;
+    let start = copied_total(column);
     let end_size = byte_count(measured.total as u32);
     let mark_size = byte_count(measured.greatest);
     let (sizes, rest) = out.split_at_mut(1);
     let (ends, others) = rest.split_at_mut(end_size * blocks);
     let (marks, bodies) = others.split_at_mut(mark_size * blocks);
     sizes[0] = (end_size + 16 * mark_size) as u8;
-    let (old_ends, new_ends) = ends.split_at_mut(end_size * kept);
-    let (old_marks, new_marks) = marks.split_at_mut(mark_size * kept);
+    let (old_ends, new_ends) = ends.split_at_mut(end_size * copied);
+    let (old_marks, new_marks) = marks.split_at_mut(mark_size * copied);
     let (old_bodies, new_bodies) = bodies.split_at_mut(16 * start as usize);
-    copy_kept(column, end_size, mark_size, old_ends, old_marks, old_bodies);
+    copy_old(column, end_size, mark_size, old_ends, old_marks, old_bodies);
     write_both(
         column.kind,
         value_after(column, filled, later),
@@ -201,7 +201,7 @@ fn write_blocks_after(
 }
 
 /// Copies the ends, the marks and the bodies of the blocks of a column, which may have none.
-fn copy_kept(
+fn copy_old(
     column: &Column,
     end_size: usize,
     mark_size: usize,
@@ -214,9 +214,9 @@ fn copy_kept(
     requires marks { length marks.old ≡ mark_size * blocks_of column.now }
     requires bodies { length bodies.old ≡ 16 * sum_to (width_after (kind_of column.now) (first_value column.now)
         (values column.now)) (blocks_of column.now) }
-    ensures ends { ends.new ≡ ends_text (kind_of column.now) (first_value column.now) (values column.now) end_size 0 }
-    ensures marks { marks.new ≡ marks_text (kind_of column.now) (first_value column.now) (values column.now) mark_size }
-    ensures bodies { bodies.new ≡ bodies_text (kind_of column.now) (first_value column.now) (values column.now) }
+    ensures ends { ends.new ≡ ends_encoding (kind_of column.now) (first_value column.now) (values column.now) end_size 0 }
+    ensures marks { marks.new ≡ marks_encoding (kind_of column.now) (first_value column.now) (values column.now) mark_size }
+    ensures bodies { bodies.new ≡ bodies_encoding (kind_of column.now) (first_value column.now) (values column.now) }
 {
     if column.blocks() > 0 {
         copy_front(column, end_size, mark_size, ends, marks, bodies);
@@ -247,9 +247,9 @@ fn write_both(
     requires marks { length marks.old ≡ mark_size * (length (filled.now ++ later.now) / 128) }
     requires bodies { length bodies.old ≡ 16 * sum_to (width_after kind before (filled.now ++ later.now))
         (length (filled.now ++ later.now) / 128) }
-    ensures ends { ends.new ≡ ends_text kind before (filled.now ++ later.now) end_size start }
-    ensures marks { marks.new ≡ marks_text kind before (filled.now ++ later.now) mark_size }
-    ensures bodies { bodies.new ≡ bodies_text kind before (filled.now ++ later.now) }
+    ensures ends { ends.new ≡ ends_encoding kind before (filled.now ++ later.now) end_size start }
+    ensures marks { marks.new ≡ marks_encoding kind before (filled.now ++ later.now) mark_size }
+    ensures bodies { bodies.new ≡ bodies_encoding kind before (filled.now ++ later.now) }
 {
     if filled.is_empty() {
         return write_entries(

@@ -24,7 +24,7 @@ impl<'a> Column<'a> {
         ensures memory { IfErr result (λ e. e ≡ ColumnError.Memory) }
         ensures room { OnErr result (vec_capacity out.old < vec_len out.old + length (values self.now)) }
         ensures unchanged { OnErr result (out.new.items ≡ out.old.items) }
-        ensures kept { OnErr result (vec_capacity out.new ≡ vec_capacity out.old) }
+        ensures capacity { OnErr result (vec_capacity out.new ≡ vec_capacity out.old) }
     {
         if out.reserve(self.count).is_err() {
             return Err(ColumnError::Memory);

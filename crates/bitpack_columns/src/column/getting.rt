@@ -3,7 +3,7 @@
 ghost use Rattle.std.specs.Prelude.{◌≡◌, ℕ, ◌+◌, ◌-◌, ◌*◌, ◌/◌, ◌%◌, ◌^◌, ◌<◌, ◌≤◌, IfErr, MatchOption, OnErr, OnOk, drop, length, slice_get, slice_index, true};
 ghost use Rattle.bitpacking.specs.Layout.{codes_of};
 ghost use Rattle.bitpack_columns.specs.declared.column_kind.ColumnKind.TheVariants.{Plain, Sorted};
-ghost use Rattle.bitpack_columns.specs.Gathering.{AreWithin, HasValues, HoldsBlock};
+ghost use Rattle.bitpack_columns.specs.Gathering.{AreWithin, CachesBlock, HasValues};
 ghost use Rattle.bitpack_columns.specs.Columns.{block_of};
 ghost use Rattle.bitpack_columns.specs.Counted.{runs};
 ghost use Rattle.bitpack_columns.specs.Opened.{blocks_of, kind_of, values};
@@ -111,7 +111,7 @@ impl<'a> Column<'a> {
         requires last { HasValues (values self.now) last.old }
         ensures value { result ≡ slice_index (values self.now) (slice_index positions.now 0) }
         ensures last { HasValues (values self.now) last.new }
-        ensures reads { HoldsBlock (slice_index positions.now 0 / 128) last.old last.new reads.old reads.new }
+        ensures reads { CachesBlock (slice_index positions.now 0 / 128) last.old last.new reads.old reads.new }
     {
         let block = positions[0] / BLOCK_LEN;
         let index = positions[0] % BLOCK_LEN;
@@ -121,7 +121,7 @@ impl<'a> Column<'a> {
         if self.is_alone(block, positions) {
             return self.value_in_block(block, index, reads);
         }
-        self.hold(block, last, reads);
+        self.cache(block, last, reads);
         last.values[index]
     }
 
@@ -138,12 +138,12 @@ impl<'a> Column<'a> {
 
     // Unpacks a block, or the tail, unless it was unpacked last.
     #[inline(always)]
-    fn hold(&self, block: usize, last: &mut LastBlock, reads: &mut Reads)
+    fn cache(&self, block: usize, last: &mut LastBlock, reads: &mut Reads)
         requires block { block ≤ blocks_of self.now }
         requires values { HasValues (values self.now) last.old }
         ensures block { last.new.block ≡ block }
         ensures values { HasValues (values self.now) last.new }
-        ensures reads { HoldsBlock block last.old last.new reads.old reads.new }
+        ensures reads { CachesBlock block last.old last.new reads.old reads.new }
     {
         if last.block != block {
             reads.unpack_block(self, block, &mut last.values);

@@ -5,7 +5,7 @@ ghost use Rattle.bitpack_columns.specs.declared.column_kind.ColumnKind.TheVarian
 ghost use Rattle.bitpack_columns.specs.Counted.{ReadsRange, ReadsSearches, UnpacksUntold};
 ghost use Rattle.bitpack_columns.specs.Opened.{blocks_of, kind_of, values};
 ghost use Rattle.bitpack_columns.specs.Ranges.{positions_between};
-ghost use Rattle.bitpack_columns.specs.Searches.{AreWithin, FindsPositions, IsLowerBound, greatest_in, least_in, positions_among, told};
+ghost use Rattle.bitpack_columns.specs.Searches.{AreWithin, FindsPositions, IsLowerBound, decided, greatest_in, least_in, positions_in_range};
 
 use crate::column::within::{count_in, count_up, find_in};
 use crate::column::{BLOCK_LEN, Column};
@@ -15,7 +15,7 @@ use crate::reads::Reads;
 impl<'a> Column<'a> {
     /// Returns how many values are within a range, both ends included.
     ///
-    /// In a sorted column it looks for both ends, as `seek` does. In a plain one it unpacks the blocks whose bounds do not tell, and the tail.
+    /// In a sorted column it looks for both ends, as `seek` does. In a plain one it unpacks the blocks whose bounds do not decide, and the tail.
     pub fn count_between(&self, low: u32, high: u32) -> usize
         ensures { result ≡ length (positions_between low high 0 (values self.now)) }
     {
@@ -132,11 +132,11 @@ impl<'a> Column<'a> {
     ) -> usize
         requires plain { kind_of self.now ≡ Plain }
         requires block { block ≤ blocks_of self.now }
-        ensures count { result ≡ length (positions_among low high
+        ensures count { result ≡ length (positions_in_range low high
             (128 * block) (min 128 (length (values self.now) - 128 * block)) (values self.now)) }
         ensures reads { UnpacksUntold self.now low high block 1 reads.old reads.new }
     {
-        match self.settled(block, low, high, reads) {
+        match self.decide(block, low, high, reads) {
             Some(true) => BLOCK_LEN,
             Some(false) => 0,
             None => {
@@ -195,12 +195,12 @@ impl<'a> Column<'a> {
         requires block { block ≤ blocks_of self.now }
         requires index { index ≤ min 128 (length (values self.now) - 128 * block) }
         ensures few { result ≤ 128 }
-        ensures found { take result found.new ≡ positions_among low high
+        ensures found { take result found.new ≡ positions_in_range low high
             (128 * block + index) (min 128 (length (values self.now) - 128 * block) - index) (values self.now) }
         ensures reads { UnpacksUntold self.now low high block 1 reads.old reads.new }
     {
         let start = BLOCK_LEN * block + index;
-        match self.settled(block, low, high, reads) {
+        match self.decide(block, low, high, reads) {
             Some(true) => {
                 count_up(start, &mut found[..BLOCK_LEN - index]);
                 BLOCK_LEN - index
@@ -213,13 +213,13 @@ impl<'a> Column<'a> {
         }
     }
 
-    // Whether all values of a block are within the range, or none is, if its bounds tell. Of the tail, which has the count of blocks,
-    // nothing is told.
-    fn settled(&self, block: usize, low: u32, high: u32, reads: &mut Reads) -> Option<bool>
+    // Whether all values of a block are within the range, or none is, if its bounds decide. Of the tail, which has the count of blocks,
+    // nothing is decided.
+    fn decide(&self, block: usize, low: u32, high: u32, reads: &mut Reads) -> Option<bool>
         requires plain { kind_of self.now ≡ Plain }
         requires block { block ≤ blocks_of self.now }
         ensures block { block < blocks_of self.now
-            → result ≡ told low high (least_in self.now block) (greatest_in self.now block) }
+            → result ≡ decided low high (least_in self.now block) (greatest_in self.now block) }
         ensures tail { block ≡ blocks_of self.now → result ≡ None }
         ensures all { result ≡ Some true → AreWithin true low high block (values self.now) }
         ensures none { result ≡ Some false → AreWithin false low high block (values self.now) }

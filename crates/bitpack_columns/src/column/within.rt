@@ -58,7 +58,7 @@ fn find_by_eight(
     let mut next = 0;
     for group in 0..values.len() / 8 {
         let at = 8 * group;
-        let bits = marks_of_eight(values, at, low, high);
+        let bits = matches_of_eight(values, at, low, high);
         next = put_ones(bits, start + at, next, found);
     }
     next
@@ -93,7 +93,7 @@ fn find_rest(
 
 /// Which of eight values from an index on are within a range: a bit for each.
 #[inline(always)]
-fn marks_of_eight(values: &[u32], at: usize, low: u32, high: u32) -> u8
+fn matches_of_eight(values: &[u32], at: usize, low: u32, high: u32) -> u8
     requires { at + 8 ≤ length values.now }
     ensures { ones_in result
         ≡ filter (λ k. is_between low high (slice_index values.now (at + k))) (range_with_len 0 8) }

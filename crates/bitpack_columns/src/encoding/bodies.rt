@@ -2,8 +2,8 @@
 
 ghost use Rattle.std.specs.Prelude.{◌≡◌, ℕ, ◌+◌, ◌*◌, ◌/◌, ◌^◌, ◌<◌, ◌≤◌, length, slice_index};
 ghost use Rattle.bitpack_columns.specs.declared.column_kind.ColumnKind.TheVariants.{Plain};
-ghost use Rattle.bitpack_columns.specs.Columns.{blocks_text, codes, mark_of, packed_block, sum_to};
-ghost use Rattle.bitpack_columns.specs.Measured.{AreWidths, IsMeasured, base_after, bodies_text, ends_text, marks_text, width_after};
+ghost use Rattle.bitpack_columns.specs.Columns.{blocks_encoding, codes, mark_of, packed_block, sum_to};
+ghost use Rattle.bitpack_columns.specs.Measured.{AreWidths, IsMeasured, base_after, bodies_encoding, ends_encoding, marks_encoding, width_after};
 ghost use Rattle.bitpack_groups.specs.Packed.{least_width};
 
 use crate::column::BLOCK_LEN;
@@ -25,8 +25,8 @@ pub(crate) fn write_blocks(
     requires measured { IsMeasured kind (slice_index values.now 0) values.now
         measured.total measured.greatest measured.last }
     requires widths { AreWidths kind (slice_index values.now 0) values.now widths.now }
-    requires size { length out.old ≡ length (blocks_text kind values.now) }
-    ensures { out.new ≡ blocks_text kind values.now }
+    requires size { length out.old ≡ length (blocks_encoding kind values.now) }
+    ensures { out.new ≡ blocks_encoding kind values.now }
 {
     let blocks = values.len() / BLOCK_LEN;
     let end_size = byte_count(measured.total as u32);
@@ -61,9 +61,9 @@ pub(crate) fn write_entries(
     requires ends { length ends.old ≡ end_size * (length values.now / 128) }
     requires marks { length marks.old ≡ mark_size * (length values.now / 128) }
     requires bodies { length bodies.old ≡ 16 * sum_to (width_after kind before values.now) (length values.now / 128) }
-    ensures ends { ends.new ≡ ends_text kind before values.now end_size start }
-    ensures marks { marks.new ≡ marks_text kind before values.now mark_size }
-    ensures bodies { bodies.new ≡ bodies_text kind before values.now }
+    ensures ends { ends.new ≡ ends_encoding kind before values.now end_size start }
+    ensures marks { marks.new ≡ marks_encoding kind before values.now mark_size }
+    ensures bodies { bodies.new ≡ bodies_encoding kind before values.now }
 {
     let mut room = [0; BLOCK_LEN];
     let mut last = before;

@@ -2,7 +2,7 @@
 
 ghost use Rattle.std.specs.Prelude.{◌≡◌, ◌*◌, ◌/◌, ◌<◌, ◌≤◌, length, slice_index};
 ghost use Rattle.bitpack_columns.specs.Columns.{mark_in, sum_to};
-ghost use Rattle.bitpack_columns.specs.Measured.{bodies_text, ends_text, first_value, marks_text, width_after};
+ghost use Rattle.bitpack_columns.specs.Measured.{bodies_encoding, ends_encoding, first_value, marks_encoding, width_after};
 ghost use Rattle.bitpack_columns.specs.Numbers.{greatest};
 ghost use Rattle.bitpack_columns.specs.Opened.{blocks_of, kind_of, values};
 
@@ -46,9 +46,9 @@ pub(crate) fn copy_front(
     requires marks { length marks.old ≡ mark_size * blocks_of column.now }
     requires bodies { length bodies.old ≡ 16 * sum_to (width_after (kind_of column.now) (first_value column.now)
         (values column.now)) (blocks_of column.now) }
-    ensures ends { ends.new ≡ ends_text (kind_of column.now) (first_value column.now) (values column.now) end_size 0 }
-    ensures marks { marks.new ≡ marks_text (kind_of column.now) (first_value column.now) (values column.now) mark_size }
-    ensures bodies { bodies.new ≡ bodies_text (kind_of column.now) (first_value column.now) (values column.now) }
+    ensures ends { ends.new ≡ ends_encoding (kind_of column.now) (first_value column.now) (values column.now) end_size 0 }
+    ensures marks { marks.new ≡ marks_encoding (kind_of column.now) (first_value column.now) (values column.now) mark_size }
+    ensures bodies { bodies.new ≡ bodies_encoding (kind_of column.now) (first_value column.now) (values column.now) }
 {
     copy_ends(column, end_size, ends);
     copy_marks(column, mark_size, marks);
@@ -61,7 +61,7 @@ fn copy_ends(column: &Column, size: usize, out: &mut [u8])
     requires some { 0 < blocks_of column.now }
     requires size { size ≤ 4 }
     requires room { length out.old ≡ size * blocks_of column.now }
-    ensures { out.new ≡ ends_text (kind_of column.now) (first_value column.now) (values column.now) size 0 }
+    ensures { out.new ≡ ends_encoding (kind_of column.now) (first_value column.now) (values column.now) size 0 }
 {
     let blocks = column.blocks();
     for block in 0..blocks {
@@ -73,7 +73,7 @@ fn copy_ends(column: &Column, size: usize, out: &mut [u8])
 fn copy_marks(column: &Column, size: usize, out: &mut [u8])
     requires size { size ≤ 4 }
     requires room { length out.old ≡ size * blocks_of column.now }
-    ensures { out.new ≡ marks_text (kind_of column.now) (first_value column.now) (values column.now) size }
+    ensures { out.new ≡ marks_encoding (kind_of column.now) (first_value column.now) (values column.now) size }
 {
     for block in 0..column.blocks() {
         write_at(block, size, column.mark(block), out);

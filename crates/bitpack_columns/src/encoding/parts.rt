@@ -2,7 +2,7 @@
 
 ghost use Rattle.std.specs.Prelude.{◌≡◌, ℕ, List, [], ◌∷◌, ◌+◌, ◌*◌, ◌^◌, ◌<◌, ◌≤◌, if◌then◌else◌, length, min, nat_lt, slice_index, take};
 ghost use Rattle.bitpack_columns.specs.declared.column_kind.ColumnKind.TheVariants.{Sorted};
-ghost use Rattle.bitpack_columns.specs.Columns.{codes, header_text, kind_bit};
+ghost use Rattle.bitpack_columns.specs.Columns.{codes, header_encoding, kind_bit};
 ghost use Rattle.bitpack_columns.specs.Measured.{tail_after};
 ghost use Rattle.bitpack_columns.specs.Numbers.{number};
 
@@ -27,7 +27,7 @@ pub(crate) fn write_header(kind: ColumnKind, count: usize, first: u32, bytes: &m
     requires few { count ≤ 2 ^ 28 }
     requires room { length bytes.old ≡ LONGEST_HEADER }
     ensures header { (values : List ℕ) → length values ≡ count → (kind ≡ Sorted → slice_index values 0 ≡ first)
-        → take result bytes.new ≡ header_text kind values }
+        → take result bytes.new ≡ header_encoding kind values }
     ensures within { result ≤ LONGEST_HEADER }
 {
     let len = write_count(kind, count, bytes);

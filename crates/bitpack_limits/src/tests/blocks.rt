@@ -10,11 +10,11 @@ use std::process::Abort;
 /// The tests look at 64 bytes after a block, and at three items after its values.
 const BYTES_AFTER: usize = 64;
 
-const PLACES_AFTER: usize = 3;
+const SLOTS_AFTER: usize = 3;
 
 const ALL_BYTES: usize = LONGEST + BYTES_AFTER;
 
-const ALL_PLACES: usize = 256 + PLACES_AFTER;
+const ALL_SLOTS: usize = 256 + SLOTS_AFTER;
 
 /// Packs a block at a width that its codes fit, and returns the number of bytes.
 pub(super) fn packed<P: BitPacker>(
@@ -39,13 +39,13 @@ fn unpacked<P: BitPacker>(
     packer: &P,
     kind: Kind,
     bytes: &[u8],
-    places: &mut [u32],
+    slots: &mut [u32],
     num_bits: u8,
 ) -> usize {
     assert!(rt; num_bits <= 32);
     assert!(rt; P::compressed_block_size(num_bits) <= bytes.len());
-    assert!(rt; P::BLOCK_LEN <= places.len());
-    packer.decompress_kind(kind, bytes, places, num_bits)
+    assert!(rt; P::BLOCK_LEN <= slots.len());
+    packer.decompress_kind(kind, bytes, slots, num_bits)
 }
 
 /// The least width of a block.
@@ -104,9 +104,9 @@ pub(super) fn unpacks_to<P: BitPacker>(
     expected: &[u32],
 ) {
     assert!(rt; bytes.len() == P::compressed_block_size(num_bits));
-    let mut back = [9; ALL_PLACES];
-    let places = &mut back[..P::BLOCK_LEN + PLACES_AFTER];
-    let read = unpacked(rt, packer, kind, bytes, places, num_bits);
+    let mut back = [9; ALL_SLOTS];
+    let slots = &mut back[..P::BLOCK_LEN + SLOTS_AFTER];
+    let read = unpacked(rt, packer, kind, bytes, slots, num_bits);
     assert!(rt; read == bytes.len());
     let (values, rest) = back.split_at(P::BLOCK_LEN);
     assert!(rt; values == expected);
@@ -214,13 +214,13 @@ fn unpacked_counted<P: Counted>(
     packer: &P,
     kind: Kind,
     bytes: &[u8],
-    places: &mut [u32],
+    slots: &mut [u32],
     num_bits: u8,
 ) -> usize {
     assert!(rt; num_bits <= 32);
     assert!(rt; P::compressed_block_size(num_bits) <= bytes.len());
-    assert!(rt; P::BLOCK_LEN <= places.len());
-    packer.unpack_counted(kind, bytes, places, num_bits, &mut Steps::new())
+    assert!(rt; P::BLOCK_LEN <= slots.len());
+    packer.unpack_counted(kind, bytes, slots, num_bits, &mut Steps::new())
 }
 
 /// The block at the width has these bytes, and they have this block.
@@ -281,9 +281,9 @@ fn pack_equally<P: BitPacker>(
 /// Two packers read the same over equal items.
 fn unpack_equally<P: BitPacker>(rt: &impl Abort, packer: &P, other: &P, kind: Kind, width: u8) {
     let bytes = bytes::<ALL_BYTES>();
-    let mut back = numbers::<ALL_PLACES>(32);
+    let mut back = numbers::<ALL_SLOTS>(32);
     let read = unpacked(rt, packer, kind, &bytes, &mut back, width);
-    let mut other_back = numbers::<ALL_PLACES>(32);
+    let mut other_back = numbers::<ALL_SLOTS>(32);
     let other_read = unpacked(rt, other, kind, &bytes, &mut other_back, width);
     assert!(rt; read == other_read);
     assert!(rt; back == other_back);

@@ -19,10 +19,10 @@ pub(super) fn encode1<P: BitPacker>(
 /// Decodes a version 1 list.
 pub(super) fn decode1<P: BitPacker>(
     packer: &P,
-    text: &[u8],
+    encoding: &[u8],
     out: &mut Vec<u32>,
 ) -> Result<ListKind, ListError> {
-    list::decode(packer, text, out)
+    list::decode(packer, encoding, out)
 }
 
 /// Encodes in version 2.
@@ -38,18 +38,18 @@ pub(super) fn encode2<P: BitPacker>(
 /// Converts a version 1 list to version 2.
 pub(super) fn upgrade<P: BitPacker>(
     packer: &P,
-    text: &[u8],
+    encoding: &[u8],
     out: &mut Vec<u8>,
 ) -> Result<(), ListError> {
-    list2::upgrade(packer, text, out)
+    list2::upgrade(packer, encoding, out)
 }
 
 /// Opens a version 2 list.
 pub(super) fn open<'a, P: BitPacker>(
     packer: &P,
-    text: &'a [u8],
+    encoding: &'a [u8],
 ) -> Result<PackedList<'a, P>, ListError> {
-    PackedList::open(*packer, text)
+    PackedList::open(*packer, encoding)
 }
 
 /// The value at a position.
@@ -71,15 +71,15 @@ pub(super) fn seek<P: BitPacker>(
 }
 
 /// What `intersect` returns for two lists, or `None` if the bytes of one of them are no list in order.
-pub(super) fn intersect_texts<P: BitPacker, Q: BitPacker>(
-    (packer, text): (&P, &[u8]),
-    (other_packer, other_text): (&Q, &[u8]),
+pub(super) fn intersect_encodings<P: BitPacker, Q: BitPacker>(
+    (packer, encoding): (&P, &[u8]),
+    (other_packer, other_encoding): (&Q, &[u8]),
     out: &mut Vec<u32>,
 ) -> Option<Result<(), ListError>> {
-    let Ok(a) = open(packer, text) else {
+    let Ok(a) = open(packer, encoding) else {
         return None;
     };
-    let Ok(b) = open(other_packer, other_text) else {
+    let Ok(b) = open(other_packer, other_encoding) else {
         return None;
     };
     if a.kind() == ListKind::Plain || b.kind() == ListKind::Plain {

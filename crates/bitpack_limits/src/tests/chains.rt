@@ -12,12 +12,12 @@ use std::process::Abort;
 /// Items: the first go on from `previous` in steps, modulo 2 ^ 32. The others hold 9.
 fn rising<const N: usize>(count: usize, previous: u32, step: u32) -> [u32; N] {
     let mut value = previous;
-    let mut places = [9; N];
-    for place in places.iter_mut().take(count) {
+    let mut slots = [9; N];
+    for slot in slots.iter_mut().take(count) {
         value = value.wrapping_add(step);
-        *place = value;
+        *slot = value;
     }
-    places
+    slots
 }
 
 /// Packs a chain, and returns the number of bytes: without a contract, so that its callers are short to prove.
@@ -156,7 +156,7 @@ fn value_of(kind: Kind, previous: u32, code: u32) -> u32 {
 fn blocks_of_three_codes(len: usize, kind: Kind, start: u32) -> [u32; 769] {
     let mut values = [9; 769];
     let mut value = start;
-    for (index, place) in values.iter_mut().take(len.saturating_mul(3)).enumerate() {
+    for (index, slot) in values.iter_mut().take(len.saturating_mul(3)).enumerate() {
         let code = if index < len {
             1
         } else if index - len < len {
@@ -165,7 +165,7 @@ fn blocks_of_three_codes(len: usize, kind: Kind, start: u32) -> [u32; 769] {
             5
         };
         value = value_of(kind, value, code);
-        *place = value;
+        *slot = value;
     }
     values
 }
@@ -215,9 +215,9 @@ fn three_blocks<P: BitPacker>(rt: &impl Abort, packer: &P, kind: Kind, start: u3
 }
 
 /// Writes the items from this index on.
-fn put<T: Copy>(places: &mut [T], index: usize, items: &[T]) {
-    for (place, item) in places.iter_mut().skip(index).zip(items) {
-        *place = *item;
+fn put<T: Copy>(slots: &mut [T], index: usize, items: &[T]) {
+    for (slot, item) in slots.iter_mut().skip(index).zip(items) {
+        *slot = *item;
     }
 }
 

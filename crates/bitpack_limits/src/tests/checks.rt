@@ -5,7 +5,7 @@ use std::alloc::Global;
 use std::process::Abort;
 
 /// The fact holds.
-pub(super) fn holds(rt: &impl Abort, fact: bool, what: &str) {
+pub(super) fn is_true(rt: &impl Abort, fact: bool, what: &str) {
     assert!(rt; fact, "{what}");
 }
 
@@ -14,14 +14,14 @@ pub(super) fn returns(
     rt: &impl Abort,
     found: Result<(), ListError>,
     expected: Result<(), ListError>,
-    text: &[u8],
+    encoding: &[u8],
 ) {
-    assert_eq!(rt; found, expected, "{text:?}");
+    assert_eq!(rt; found, expected, "{encoding:?}");
 }
 
 /// The call on these bytes succeeded.
-pub(super) fn succeeds(rt: &impl Abort, found: Result<(), ListError>, text: &[u8]) {
-    returns(rt, found, Ok(()), text);
+pub(super) fn succeeds(rt: &impl Abort, found: Result<(), ListError>, encoding: &[u8]) {
+    returns(rt, found, Ok(()), encoding);
 }
 
 /// The bytes are equal.
@@ -41,18 +41,18 @@ pub(super) fn same_number(rt: &impl Abort, found: usize, expected: usize, what: 
 
 /// The vector holds the value of `one_value`, and these after it.
 pub(super) fn appended_values(rt: &impl Abort, out: &[u32], first: u32, expected: &[u32]) {
-    holds(rt, out.first() == Some(&first), "the first value stays");
+    is_true(rt, out.first() == Some(&first), "the first value stays");
     same_values(rt, out.get(1..).unwrap_or(&[]), expected);
 }
 
 /// The vector holds what `nine` returned, in the room that it had.
-pub(super) fn kept_bytes(rt: &impl Abort, out: &Vec<u8>, room: usize) {
+pub(super) fn unchanged_bytes(rt: &impl Abort, out: &Vec<u8>, room: usize) {
     same_bytes(rt, out, &[9]);
     same_number(rt, out.capacity(), room, "room");
 }
 
 /// The vector holds what `one_value` returned, in the room that it had.
-pub(super) fn kept_values(rt: &impl Abort, out: &Vec<u32>, first: u32, room: usize) {
+pub(super) fn unchanged_values(rt: &impl Abort, out: &Vec<u32>, first: u32, room: usize) {
     same_values(rt, out, &[first]);
     same_number(rt, out.capacity(), room, "room");
 }
@@ -78,13 +78,13 @@ pub(super) fn push(rt: &impl Abort, values: &mut Vec<u32>, value: u32) {
 }
 
 /// Appends bytes.
-pub(super) fn push_bytes(rt: &impl Abort, text: &mut Vec<u8>, bytes: &[u8]) {
-    text.extend_from_slice(bytes).expect(rt, "memory");
+pub(super) fn push_bytes(rt: &impl Abort, encoding: &mut Vec<u8>, bytes: &[u8]) {
+    encoding.extend_from_slice(bytes).expect(rt, "memory");
 }
 
 /// The bytes with the byte 0 after them.
-pub(super) fn with_zero(rt: &impl Abort, alloc: Global, text: &[u8]) -> Vec<u8> {
-    let mut longer = Vec::from_slice(alloc, text).expect(rt, "memory");
+pub(super) fn with_zero(rt: &impl Abort, alloc: Global, encoding: &[u8]) -> Vec<u8> {
+    let mut longer = Vec::from_slice(alloc, encoding).expect(rt, "memory");
     push_bytes(rt, &mut longer, &[0]);
     longer
 }

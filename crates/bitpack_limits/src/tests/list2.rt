@@ -1,29 +1,34 @@
 //! Lists of version 2, read or refused.
 
 use crate::tests::calls::{open, value_at};
-use crate::tests::checks::{holds, returns, same_number};
+use crate::tests::checks::{is_true, returns, same_number};
 use bitpack::list2::PackedList;
 use bitpack::{ListError, ListKind};
 use bitpacking::BitPacker;
 use std::process::Abort;
 
 /// What opening the bytes returns, without the list.
-pub(super) fn opened<P: BitPacker>(packer: &P, text: &[u8]) -> Result<(), ListError> {
-    match open(packer, text) {
+pub(super) fn opened<P: BitPacker>(packer: &P, encoding: &[u8]) -> Result<(), ListError> {
+    match open(packer, encoding) {
         Ok(_) => Ok(()),
         Err(error) => Err(error),
     }
 }
 
 /// The bytes are refused.
-pub(super) fn is_refused<P: BitPacker>(rt: &impl Abort, packer: &P, text: &[u8], error: ListError) {
-    returns(rt, opened(packer, text), Err(error), text);
+pub(super) fn is_refused<P: BitPacker>(
+    rt: &impl Abort,
+    packer: &P,
+    encoding: &[u8],
+    error: ListError,
+) {
+    returns(rt, opened(packer, encoding), Err(error), encoding);
 }
 
 /// All of these bytes are refused.
 pub(super) fn are_refused<P: BitPacker>(rt: &impl Abort, packer: &P, cases: &[(&[u8], ListError)]) {
-    for (text, error) in cases {
-        is_refused(rt, packer, text, *error);
+    for (encoding, error) in cases {
+        is_refused(rt, packer, encoding, *error);
     }
 }
 
@@ -44,7 +49,7 @@ fn has_values<P: BitPacker>(
     kind: ListKind,
     values: &[u32],
 ) {
-    holds(rt, list.kind() == kind, "the kind");
+    is_true(rt, list.kind() == kind, "the kind");
     same_number(rt, list.len(), values.len(), "values");
     for position in 0..values.len() {
         has_value(rt, list, position, Some(values[position]));
@@ -59,11 +64,11 @@ pub(super) fn is_list<P: BitPacker>(
     packer: &P,
     kind: ListKind,
     values: &[u32],
-    text: &[u8],
+    encoding: &[u8],
 ) {
-    match open(packer, text) {
+    match open(packer, encoding) {
         Ok(list) => has_values(rt, &list, kind, values),
-        Err(error) => returns(rt, Err(error), Ok(()), text),
+        Err(error) => returns(rt, Err(error), Ok(()), encoding),
     }
 }
 

@@ -5,7 +5,7 @@ use super::list2::{are_refused, is_list, is_refused, opened};
 use super::memory::{grow_stack, take_all};
 use crate::tests::calls::encode2;
 use crate::tests::checks::{
-    holds, kept_bytes, nine, push, returns, room_for, same_bytes, same_number, succeeds,
+    is_true, nine, push, returns, room_for, same_bytes, same_number, succeeds, unchanged_bytes,
 };
 use bitpack::{ListError, ListKind};
 use bitpacking::{BitPacker, BitPacker1x, BitPacker4x, BitPacker8x};
@@ -21,16 +21,16 @@ fn encode_within<P: BitPacker>(
     out: &mut Vec<u8>,
     spare: usize,
 ) -> Result<(), ListError> {
-    let kept: Vec<u8> = room_for(rt, alloc, spare);
+    let unchanged: Vec<u8> = room_for(rt, alloc, spare);
     let taken = take_all(rt, alloc);
-    drop(kept);
+    drop(unchanged);
     let outcome = encode2(packer, kind, values, out);
     drop(taken);
     outcome
 }
 
 /// With no memory the values are refused, and the vector holds its one item in the room that it had.
-fn is_kept<P: BitPacker>(
+fn is_unchanged<P: BitPacker>(
     rt: &impl Abort,
     alloc: Global,
     packer: &P,
@@ -41,7 +41,7 @@ fn is_kept<P: BitPacker>(
     let room = written.capacity();
     let outcome = encode_within(rt, alloc, packer, list, &mut written, 0);
     returns(rt, outcome, Err(error), &[]);
-    kept_bytes(rt, &written, room);
+    unchanged_bytes(rt, &written, room);
 }
 
 /// With room for the one growth `encode` succeeds.
@@ -50,12 +50,12 @@ fn grows_once<P: BitPacker>(
     alloc: Global,
     packer: &P,
     list: (ListKind, &[u32]),
-    text: &[u8],
+    encoding: &[u8],
 ) {
     let mut written = nine(rt, alloc);
-    let outcome = encode_within(rt, alloc, packer, list, &mut written, text.len());
+    let outcome = encode_within(rt, alloc, packer, list, &mut written, encoding.len());
     succeeds(rt, outcome, &[]);
-    same_bytes(rt, &written, text);
+    same_bytes(rt, &written, encoding);
 }
 
 /// Whether no byte is left.
@@ -70,7 +70,7 @@ fn opens_with_none<P: BitPacker>(
     alloc: Global,
     packer: &P,
     values: &[u32],
-    text: &[u8],
+    encoding: &[u8],
 ) {
     let taken = take_all(rt, alloc);
     let refused = is_all_taken(alloc);
@@ -79,13 +79,13 @@ fn opens_with_none<P: BitPacker>(
         packer,
         ListKind::Plain,
         values,
-        text.get(1..).unwrap_or(&[]),
+        encoding.get(1..).unwrap_or(&[]),
     );
-    is_refused(rt, packer, text, ListError::BadVersion(9));
-    let short = text.get(1..100).unwrap_or(&[]);
+    is_refused(rt, packer, encoding, ListError::BadVersion(9));
+    let short = encoding.get(1..100).unwrap_or(&[]);
     is_refused(rt, packer, short, ListError::Short);
     drop(taken);
-    holds(rt, refused, "no memory was left");
+    is_true(rt, refused, "no memory was left");
 }
 
 /// Values in which the greatest and 0 take turns.
@@ -105,15 +105,15 @@ fn one_growth<P: BitPacker>(rt: &impl Abort, alloc: Global, packer: &P) {
     let len = P::BLOCK_LEN;
     let values = turns(rt, alloc, len * 10 + 5);
     let list = (ListKind::Plain, values.as_slice());
-    let mut text = nine(rt, alloc);
-    succeeds(rt, encode2(packer, list.0, list.1, &mut text), &[]);
-    same_number(rt, text.len(), 1 + 7 + 90 + len * 40 + 20, "bytes");
-    same_number(rt, text.capacity(), text.len(), "room for bytes");
-    grows_once(rt, alloc, packer, list, &text);
-    is_kept(rt, alloc, packer, list, ListError::Memory);
+    let mut encoding = nine(rt, alloc);
+    succeeds(rt, encode2(packer, list.0, list.1, &mut encoding), &[]);
+    same_number(rt, encoding.len(), 1 + 7 + 90 + len * 40 + 20, "bytes");
+    same_number(rt, encoding.capacity(), encoding.len(), "room for bytes");
+    grows_once(rt, alloc, packer, list, &encoding);
+    is_unchanged(rt, alloc, packer, list, ListError::Memory);
     let unsorted = (ListKind::Sorted, values.as_slice());
-    is_kept(rt, alloc, packer, unsorted, ListError::NotSorted(1));
-    opens_with_none(rt, alloc, packer, &values, &text);
+    is_unchanged(rt, alloc, packer, unsorted, ListError::NotSorted(1));
+    opens_with_none(rt, alloc, packer, &values, &encoding);
 }
 
 #[test]
@@ -132,7 +132,7 @@ fn faults_come_before_memory(rt: HostRuntime) {
     let alloc = rt.alloc();
     let packer = BitPacker1x::new();
     let unsorted: (ListKind, &[u32]) = (ListKind::Sorted, &[5, 4]);
-    is_kept(&rt, alloc, &packer, unsorted, ListError::NotSorted(1));
+    is_unchanged(&rt, alloc, &packer, unsorted, ListError::NotSorted(1));
     let taken = take_all(&rt, alloc);
     // 2 ^ 28 values that are not there, and one more.
     are_refused(

@@ -1,11 +1,11 @@
 //! Packed lists in vectors with too little room: what is left if an allocation fails, how much room a call takes, and that many
 //! lists in one vector grow it seldom.
 
-use super::lists::{decodes, three_blocks, three_blocks_text};
+use super::lists::{decodes, three_blocks, three_blocks_encoding};
 use super::memory::{grow_stack, take_all};
 use crate::tests::calls::{decode1, encode1};
 use crate::tests::checks::{
-    holds, kept_bytes, kept_values, returns, room_for, same_number, succeeds, with_zero,
+    is_true, returns, room_for, same_number, succeeds, unchanged_bytes, unchanged_values, with_zero,
 };
 use bitpack::{ListError, ListKind};
 use bitpacking::{BitPacker, BitPacker1x, BitPacker4x, BitPacker8x};
@@ -36,7 +36,7 @@ fn take_everything(rt: &impl Abort, alloc: Global) -> Vec<Vec<u8>> {
 /// A vector that holds one item, with room for `room` items.
 fn one_item<T: Copy>(rt: &impl Abort, alloc: Global, item: T, room: usize) -> Vec<T> {
     let mut items = room_for(rt, alloc, room);
-    holds(rt, items.push(item).is_ok(), "memory");
+    is_true(rt, items.push(item).is_ok(), "memory");
     items
 }
 
@@ -45,17 +45,17 @@ fn one_item<T: Copy>(rt: &impl Abort, alloc: Global, item: T, room: usize) -> Ve
 fn calls_refused<P: BitPacker>(
     rt: &impl Abort,
     packer: &P,
-    (kind, values, text, longer): (ListKind, &[u32], &[u8], &[u8]),
+    (kind, values, encoding, longer): (ListKind, &[u32], &[u8], &[u8]),
     written: &mut Vec<u8>,
     read: &mut Vec<u32>,
 ) {
     let encoded = encode1(packer, kind, values, written);
-    returns(rt, encoded, Err(ListError::Memory), text);
-    let decoded = decode1(packer, text, read);
-    decodes(rt, decoded, Err(ListError::Memory), text);
-    for end in 0..text.len() {
-        let decoded = decode1(packer, &text[..end], read);
-        decodes(rt, decoded, Err(ListError::Short), &text[..end]);
+    returns(rt, encoded, Err(ListError::Memory), encoding);
+    let decoded = decode1(packer, encoding, read);
+    decodes(rt, decoded, Err(ListError::Memory), encoding);
+    for end in 0..encoding.len() {
+        let decoded = decode1(packer, &encoding[..end], read);
+        decodes(rt, decoded, Err(ListError::Short), &encoding[..end]);
     }
     let decoded = decode1(packer, longer, read);
     decodes(rt, decoded, Err(ListError::Trailing), longer);
@@ -66,17 +66,17 @@ fn growth_refused<P: BitPacker>(
     rt: &impl Abort,
     alloc: Global,
     packer: &P,
-    (kind, values, text, longer): (ListKind, &[u32], &[u8], &[u8]),
+    (kind, values, encoding, longer): (ListKind, &[u32], &[u8], &[u8]),
     (bytes, words): (usize, usize),
 ) {
     let mut written = one_item(rt, alloc, 9u8, bytes);
     let mut read = one_item(rt, alloc, 7u32, words);
-    let list = (kind, values, text, longer);
+    let list = (kind, values, encoding, longer);
     let taken = take_everything(rt, alloc);
     calls_refused(rt, packer, list, &mut written, &mut read);
     drop(taken);
-    kept_bytes(rt, &written, bytes);
-    kept_values(rt, &read, 7, words);
+    unchanged_bytes(rt, &written, bytes);
+    unchanged_values(rt, &read, 7, words);
 }
 
 /// With no memory, and room for one item or for half of them.
@@ -88,16 +88,21 @@ fn growths_refused<P: BitPacker>(
     header: [u8; 7],
 ) {
     let values = three_blocks::<P>(rt, alloc, kind);
-    let text = three_blocks_text::<P>(rt, alloc, header);
-    let longer = with_zero(rt, alloc, &text);
-    let list = (kind, values.as_slice(), text.as_slice(), longer.as_slice());
-    let halves = (text.len() / 2, values.len() / 2);
+    let encoding = three_blocks_encoding::<P>(rt, alloc, header);
+    let longer = with_zero(rt, alloc, &encoding);
+    let list = (
+        kind,
+        values.as_slice(),
+        encoding.as_slice(),
+        longer.as_slice(),
+    );
+    let halves = (encoding.len() / 2, values.len() / 2);
     growth_refused(rt, alloc, packer, list, (1, 1));
     growth_refused(rt, alloc, packer, list, halves);
 }
 
 /// From room for a number of bytes `encode` grows to the size of the list, and no further.
-fn room_of_text<P: BitPacker>(
+fn room_of_encoding<P: BitPacker>(
     rt: &impl Abort,
     alloc: Global,
     packer: &P,
@@ -116,11 +121,11 @@ fn room_of_values<P: BitPacker>(
     rt: &impl Abort,
     alloc: Global,
     packer: &P,
-    (kind, text, words): (ListKind, &[u8], usize),
+    (kind, encoding, words): (ListKind, &[u8], usize),
     room: usize,
 ) {
     let mut read = one_item(rt, alloc, 7u32, room);
-    decodes(rt, decode1(packer, text, &mut read), Ok(kind), text);
+    decodes(rt, decode1(packer, encoding, &mut read), Ok(kind), encoding);
     same_number(rt, read.len(), words, "values");
     same_number(rt, read.capacity(), words, "room for values");
 }
@@ -131,35 +136,35 @@ fn room_taken<P: BitPacker>(
     rt: &impl Abort,
     alloc: Global,
     packer: &P,
-    (kind, values, text): (ListKind, &[u32], &[u8]),
+    (kind, values, encoding): (ListKind, &[u32], &[u8]),
 ) {
-    let (bytes, words) = (text.len() + 1, values.len() + 1);
+    let (bytes, words) = (encoding.len() + 1, values.len() + 1);
     for room in [1, bytes / 2, bytes] {
-        room_of_text(rt, alloc, packer, (kind, values, bytes), room);
+        room_of_encoding(rt, alloc, packer, (kind, values, bytes), room);
     }
     for room in [1, words / 2, words] {
-        room_of_values(rt, alloc, packer, (kind, text, words), room);
+        room_of_values(rt, alloc, packer, (kind, encoding, words), room);
     }
 }
 
 /// A thousand lists one after the other change the capacity of their vector fewer than twenty times.
-fn a_thousand_texts<P: BitPacker>(
+fn a_thousand_encodings<P: BitPacker>(
     rt: &impl Abort,
     alloc: Global,
     packer: &P,
-    (kind, values, text): (ListKind, &[u32], &[u8]),
+    (kind, values, encoding): (ListKind, &[u32], &[u8]),
 ) {
     let mut written: Vec<u8> = Vec::new(alloc);
     let mut changes = 0usize;
     for _ in 0..1000u32 {
         let room = written.capacity();
-        succeeds(rt, encode1(packer, kind, values, &mut written), text);
+        succeeds(rt, encode1(packer, kind, values, &mut written), encoding);
         if written.capacity() != room {
             changes = changes.wrapping_add(1);
         }
     }
-    same_number(rt, written.len() / 1000, text.len(), "bytes");
-    holds(rt, changes < 20, "changes of the room for bytes");
+    same_number(rt, written.len() / 1000, encoding.len(), "bytes");
+    is_true(rt, changes < 20, "changes of the room for bytes");
 }
 
 /// The values of a thousand lists one after the other change the capacity of their vector fewer than twenty times.
@@ -167,19 +172,19 @@ fn values_of_a_thousand<P: BitPacker>(
     rt: &impl Abort,
     alloc: Global,
     packer: &P,
-    (kind, values, text): (ListKind, &[u32], &[u8]),
+    (kind, values, encoding): (ListKind, &[u32], &[u8]),
 ) {
     let mut read: Vec<u32> = Vec::new(alloc);
     let mut changes = 0usize;
     for _ in 0..1000u32 {
         let room = read.capacity();
-        decodes(rt, decode1(packer, text, &mut read), Ok(kind), text);
+        decodes(rt, decode1(packer, encoding, &mut read), Ok(kind), encoding);
         if read.capacity() != room {
             changes = changes.wrapping_add(1);
         }
     }
     same_number(rt, read.len() / 1000, values.len(), "values");
-    holds(rt, changes < 20, "changes of the room for values");
+    is_true(rt, changes < 20, "changes of the room for values");
 }
 
 /// The room of one list, and of a thousand.
@@ -191,10 +196,10 @@ fn room_of_list<P: BitPacker>(
     header: [u8; 7],
 ) {
     let values = three_blocks::<P>(rt, alloc, kind);
-    let text = three_blocks_text::<P>(rt, alloc, header);
-    let list = (kind, values.as_slice(), text.as_slice());
+    let encoding = three_blocks_encoding::<P>(rt, alloc, header);
+    let list = (kind, values.as_slice(), encoding.as_slice());
     room_taken(rt, alloc, packer, list);
-    a_thousand_texts(rt, alloc, packer, list);
+    a_thousand_encodings(rt, alloc, packer, list);
     values_of_a_thousand(rt, alloc, packer, list);
 }
 
@@ -251,27 +256,27 @@ fn room_of_three_blocks(rt: HostRuntime) {
 }
 
 /// With no memory left the values of the list are not read.
-fn values_refused(rt: &impl Abort, alloc: Global, text: &[u8]) {
+fn values_refused(rt: &impl Abort, alloc: Global, encoding: &[u8]) {
     let mut read = one_item(rt, alloc, 7u32, 1);
     let taken = take_everything(rt, alloc);
-    let decoded = decode1(&BitPacker1x::new(), text, &mut read);
+    let decoded = decode1(&BitPacker1x::new(), encoding, &mut read);
     drop(taken);
-    decodes(rt, decoded, Err(ListError::Memory), text);
-    kept_values(rt, &read, 7, 1);
+    decodes(rt, decoded, Err(ListError::Memory), encoding);
+    unchanged_values(rt, &read, 7, 1);
 }
 
 /// Of the lists worked by hand those whose values are too many for the block of one item.
 #[test]
-fn growths_of_worked_texts(rt: HostRuntime) {
+fn growths_of_worked_encodings(rt: HostRuntime) {
     grow_stack(&rt);
-    let texts: [&[u8]; 2] = [
+    let encodings: [&[u8]; 2] = [
         &[1, 2, 1, 0x21, 0, 0, 0, 0, 0x20, 0, 0, 0],
         &[
             1, 1, 1, 0x40, 0, 0, 0, 1, 0xff, 0xff, 0xff, 0xff, 2, 0xaa, 0xaa, 0xaa, 0xaa, 0xaa,
             0xaa, 0xaa, 0xaa,
         ],
     ];
-    for text in texts {
-        values_refused(&rt, rt.alloc(), text);
+    for encoding in encodings {
+        values_refused(&rt, rt.alloc(), encoding);
     }
 }

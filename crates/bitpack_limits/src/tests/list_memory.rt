@@ -21,9 +21,9 @@ fn encode_within<P: BitPacker>(
     out: &mut Vec<u8>,
     spare: usize,
 ) -> Result<(), ListError> {
-    let kept: Vec<u8> = room_for(rt, alloc, spare);
+    let unchanged: Vec<u8> = room_for(rt, alloc, spare);
     let taken = take_all(rt, alloc);
-    drop(kept);
+    drop(unchanged);
     let outcome = encode1(packer, ListKind::Plain, values, out);
     drop(taken);
     outcome
@@ -34,14 +34,14 @@ fn decode_within<P: BitPacker>(
     rt: &impl Abort,
     alloc: Global,
     packer: &P,
-    text: &[u8],
+    encoding: &[u8],
     out: &mut Vec<u32>,
     spare: usize,
 ) -> Result<ListKind, ListError> {
-    let kept: Vec<u32> = room_for(rt, alloc, spare);
+    let unchanged: Vec<u32> = room_for(rt, alloc, spare);
     let taken = take_all(rt, alloc);
-    drop(kept);
-    let outcome = decode1(packer, text, out);
+    drop(unchanged);
+    let outcome = decode1(packer, encoding, out);
     drop(taken);
     outcome
 }
@@ -52,12 +52,12 @@ fn encode_grows_once<P: BitPacker>(
     alloc: Global,
     packer: &P,
     values: &[u32],
-    text: &[u8],
+    encoding: &[u8],
 ) {
     let mut written = nine(rt, alloc);
-    let outcome = encode_within(rt, alloc, packer, values, &mut written, text.len());
+    let outcome = encode_within(rt, alloc, packer, values, &mut written, encoding.len());
     succeeds(rt, outcome, &[]);
-    same_bytes(rt, &written, text);
+    same_bytes(rt, &written, encoding);
 }
 
 /// With no memory `encode` returns `Memory`, and the vector holds its one item.
@@ -73,12 +73,12 @@ fn decode_grows_once<P: BitPacker>(
     rt: &impl Abort,
     alloc: Global,
     packer: &P,
-    text: &[u8],
+    encoding: &[u8],
     all: &[u32],
 ) {
     let mut read = one_value(rt, alloc, 7);
-    let outcome = decode_within(rt, alloc, packer, text, &mut read, all.len());
-    decodes(rt, outcome, Ok(ListKind::Plain), text);
+    let outcome = decode_within(rt, alloc, packer, encoding, &mut read, all.len());
+    decodes(rt, outcome, Ok(ListKind::Plain), encoding);
     same_values(rt, &read, all);
 }
 
@@ -87,12 +87,12 @@ fn decode_refused<P: BitPacker>(
     rt: &impl Abort,
     alloc: Global,
     packer: &P,
-    text: &[u8],
+    encoding: &[u8],
     error: ListError,
 ) {
     let mut read = one_value(rt, alloc, 7);
-    let outcome = decode_within(rt, alloc, packer, text, &mut read, 0);
-    decodes(rt, outcome, Err(error), text);
+    let outcome = decode_within(rt, alloc, packer, encoding, &mut read, 0);
+    decodes(rt, outcome, Err(error), encoding);
     same_values(rt, &read, &[7]);
 }
 
@@ -101,16 +101,16 @@ fn growth_of_values<P: BitPacker>(
     rt: &impl Abort,
     alloc: Global,
     packer: &P,
-    text: &[u8],
+    encoding: &[u8],
     count: usize,
 ) {
     let mut all = one_value(rt, alloc, 7);
-    let outcome = decode1(packer, text, &mut all);
-    decodes(rt, outcome, Ok(ListKind::Plain), text);
+    let outcome = decode1(packer, encoding, &mut all);
+    decodes(rt, outcome, Ok(ListKind::Plain), encoding);
     same_number(rt, all.len(), count, "values");
     same_number(rt, all.capacity(), all.len(), "room for values");
-    decode_grows_once(rt, alloc, packer, text, &all);
-    decode_refused(rt, alloc, packer, text, ListError::Memory);
+    decode_grows_once(rt, alloc, packer, encoding, &all);
+    decode_refused(rt, alloc, packer, encoding, ListError::Memory);
 }
 
 /// With room for the one growth each call succeeds; with none it returns `Memory`, and the vector holds its one item.
@@ -120,15 +120,15 @@ fn growth_of_values<P: BitPacker>(
 fn one_growth<P: BitPacker>(rt: &impl Abort, alloc: Global, packer: &P) {
     let mut values = Vec::new(alloc);
     push_steps(rt, &mut values, u32::MAX, 0, P::BLOCK_LEN * 10 + 5);
-    let mut text = nine(rt, alloc);
-    let outcome = encode1(packer, ListKind::Plain, &values, &mut text);
+    let mut encoding = nine(rt, alloc);
+    let outcome = encode1(packer, ListKind::Plain, &values, &mut encoding);
     succeeds(rt, outcome, &[]);
-    same_number(rt, text.len(), P::BLOCK_LEN * 40 + 38, "bytes");
-    same_number(rt, text.capacity(), text.len(), "room for bytes");
-    encode_grows_once(rt, alloc, packer, &values, &text);
+    same_number(rt, encoding.len(), P::BLOCK_LEN * 40 + 38, "bytes");
+    same_number(rt, encoding.capacity(), encoding.len(), "room for bytes");
+    encode_grows_once(rt, alloc, packer, &values, &encoding);
     encode_refused(rt, alloc, packer, &values);
-    let text = text.get(1..).unwrap_or(&[]);
-    growth_of_values(rt, alloc, packer, text, P::BLOCK_LEN * 10 + 6);
+    let encoding = encoding.get(1..).unwrap_or(&[]);
+    growth_of_values(rt, alloc, packer, encoding, P::BLOCK_LEN * 10 + 6);
 }
 
 #[test]
@@ -162,7 +162,7 @@ fn faults_come_before_memory(rt: HostRuntime) {
         ),
         (&[1, 0, 1, 0x20, 0, 0, 0, 0, 0], ListError::Trailing),
     ];
-    for (text, error) in cases {
-        decode_refused(&rt, rt.alloc(), &BitPacker1x::new(), text, error);
+    for (encoding, error) in cases {
+        decode_refused(&rt, rt.alloc(), &BitPacker1x::new(), encoding, error);
     }
 }

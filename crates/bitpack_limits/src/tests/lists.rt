@@ -11,9 +11,9 @@ pub(super) fn decodes(
     rt: &impl Abort,
     found: Result<ListKind, ListError>,
     expected: Result<ListKind, ListError>,
-    text: &[u8],
+    encoding: &[u8],
 ) {
-    assert_eq!(rt; found, expected, "{text:?}");
+    assert_eq!(rt; found, expected, "{encoding:?}");
 }
 
 /// The value with this code.
@@ -73,43 +73,43 @@ fn push_tail(rt: &impl Abort, values: &mut Vec<u32>) {
 }
 
 /// Appends the words of a block, each as often as there are lanes.
-fn push_words(rt: &impl Abort, text: &mut Vec<u8>, words: &[[u8; 4]], lanes: usize) {
+fn push_words(rt: &impl Abort, encoding: &mut Vec<u8>, words: &[[u8; 4]], lanes: usize) {
     for word in words {
-        push_repeated(rt, text, word, lanes);
+        push_repeated(rt, encoding, word, lanes);
     }
 }
 
 /// Appends a word `count` times.
-fn push_repeated(rt: &impl Abort, text: &mut Vec<u8>, word: &[u8], count: usize) {
+fn push_repeated(rt: &impl Abort, encoding: &mut Vec<u8>, word: &[u8], count: usize) {
     for _ in 0..count {
-        push_bytes(rt, text, word);
+        push_bytes(rt, encoding, word);
     }
 }
 
 /// Their bytes. Each lane has one word of width 1, two of width 2 and three of width 3; the bits of the last are `101` again and
 /// again.
-pub(super) fn three_blocks_text<P: BitPacker>(
+pub(super) fn three_blocks_encoding<P: BitPacker>(
     rt: &impl Abort,
     alloc: Global,
     header: [u8; 7],
 ) -> Vec<u8> {
     let lanes = P::BLOCK_LEN / 32;
-    let mut text = Vec::new(alloc);
-    push_bytes(rt, &mut text, &header);
-    push_bytes(rt, &mut text, &[1]);
-    push_words(rt, &mut text, &[[0xff; 4]], lanes);
-    push_bytes(rt, &mut text, &[2]);
-    push_words(rt, &mut text, &[[0xaa; 4]; 2], lanes);
+    let mut encoding = Vec::new(alloc);
+    push_bytes(rt, &mut encoding, &header);
+    push_bytes(rt, &mut encoding, &[1]);
+    push_words(rt, &mut encoding, &[[0xff; 4]], lanes);
+    push_bytes(rt, &mut encoding, &[2]);
+    push_words(rt, &mut encoding, &[[0xaa; 4]; 2], lanes);
     let threes = [
         [0x6d, 0xdb, 0xb6, 0x6d],
         [0xdb, 0xb6, 0x6d, 0xdb],
         [0xb6, 0x6d, 0xdb, 0xb6],
     ];
-    push_bytes(rt, &mut text, &[3]);
-    push_words(rt, &mut text, &threes, lanes);
+    push_bytes(rt, &mut encoding, &[3]);
+    push_words(rt, &mut encoding, &threes, lanes);
     let tail = [
         5, 0, 0, 0, 0xfc, 0xfd, 0xfe, 0xff, 0, 0, 0, 0, 1, 0, 0, 0, 0xff, 0xff, 0xff, 0xff,
     ];
-    push_bytes(rt, &mut text, &tail);
-    text
+    push_bytes(rt, &mut encoding, &tail);
+    encoding
 }

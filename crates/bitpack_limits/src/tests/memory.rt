@@ -8,15 +8,15 @@ use std::process::Abort;
 /// allocates all memory calls it first.
 #[inline(never)]
 pub(super) fn grow_stack(rt: &impl Abort) {
-    let mut places = [0u32; 262_144];
+    let mut slots = [0u32; 262_144];
     let mut value = 1u32;
-    for place in places.iter_mut() {
+    for slot in slots.iter_mut() {
         value = value.wrapping_mul(1_664_525).wrapping_add(1_013_904_223);
-        *place = value;
+        *slot = value;
     }
     let mut sum: u32 = 0;
-    for place in places.iter().rev() {
-        sum = sum.wrapping_add(*place);
+    for slot in slots.iter().rev() {
+        sum = sum.wrapping_add(*slot);
     }
     // The sum is used, so that the stack is too.
     assert!(rt; sum != 1);

@@ -27,27 +27,27 @@ pub(super) fn next(x: u32) -> u32 {
 /// The numbers from the first on, each cut to its highest bits.
 pub(super) fn numbers<const N: usize>(width: u8) -> [u32; N] {
     let mut x = 1;
-    let mut places = [0; N];
-    for place in places.iter_mut() {
+    let mut slots = [0; N];
+    for slot in slots.iter_mut() {
         x = next(x);
-        *place = if width == 0 {
+        *slot = if width == 0 {
             0
         } else {
             x >> (32 - width.min(32))
         };
     }
-    places
+    slots
 }
 
 /// The numbers of 8 bits, as bytes.
 pub(super) fn bytes<const N: usize>() -> [u8; N] {
     let mut x = 1;
-    let mut places = [0; N];
-    for place in places.iter_mut() {
+    let mut slots = [0; N];
+    for slot in slots.iter_mut() {
         x = next(x);
-        *place = (x >> 24) as u8;
+        *slot = (x >> 24) as u8;
     }
-    places
+    slots
 }
 
 /// The block whose codes of this kind are these.
@@ -58,12 +58,12 @@ pub(super) fn block_of(kind: Kind, codes: &[u32]) -> [u32; 256] {
         Kind::StrictlySorted(initial) => (initial.unwrap_or(u32::MAX), 1),
     };
     let mut block = [0; 256];
-    for (place, code) in block.iter_mut().zip(codes) {
+    for (slot, code) in block.iter_mut().zip(codes) {
         value = match kind {
             Kind::Plain => *code,
             _ => value.wrapping_add(*code).wrapping_add(step),
         };
-        *place = value;
+        *slot = value;
     }
     block
 }
@@ -80,7 +80,7 @@ pub(super) fn least_width(codes: &[u32]) -> u8 {
 }
 
 /// The bit of the bytes that bit `j` of code `k` is: bit `p` of its lane's words, which are `lanes` words apart.
-fn place(lanes: usize, width: usize, k: usize, j: usize) -> usize {
+fn slot(lanes: usize, width: usize, k: usize, j: usize) -> usize {
     let lanes = lanes.max(1);
     let p = (k / lanes).wrapping_mul(width).wrapping_add(j);
     let word = lanes.wrapping_mul(p / 32).wrapping_add(k % lanes);
@@ -92,7 +92,7 @@ pub(super) fn laid(codes: &[u32], lanes: usize, width: u8) -> [u8; LONGEST] {
     let mut bytes = [0; LONGEST];
     for (k, code) in codes.iter().enumerate() {
         for j in 0..width.min(32) {
-            let bit = place(lanes, width as usize, k, j as usize);
+            let bit = slot(lanes, width as usize, k, j as usize);
             if code >> j & 1 == 1
                 && let Some(byte) = bytes.get_mut(bit / 8)
             {
@@ -108,7 +108,7 @@ pub(super) fn codes_of(bytes: &[u8], lanes: usize, width: u8) -> [u32; 256] {
     let mut codes = [0; 256];
     for (k, code) in codes.iter_mut().enumerate() {
         for j in 0..width.min(32) {
-            let bit = place(lanes, width as usize, k, j as usize);
+            let bit = slot(lanes, width as usize, k, j as usize);
             if let Some(byte) = bytes.get(bit / 8)
                 && byte >> (bit % 8) & 1 == 1
             {

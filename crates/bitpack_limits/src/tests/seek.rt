@@ -3,7 +3,7 @@
 use super::list2::thirty_three;
 use super::memory::{grow_stack, take_all};
 use crate::tests::calls::{open, seek};
-use crate::tests::checks::{holds, returns};
+use crate::tests::checks::{is_true, returns};
 use bitpack::list2::PackedList;
 use bitpacking::{BitPacker, BitPacker1x};
 use std::process::Abort;
@@ -49,5 +49,5 @@ fn searches_take_no_memory(rt: HostRuntime) {
     finds(&rt, &SEVENS, 7, Some((0, 7)));
     finds(&rt, &thirty_three(0, 0, 31, 32), 32, Some((32, 32)));
     drop(taken);
-    holds(&rt, refused, "no memory was left");
+    is_true(&rt, refused, "no memory was left");
 }

@@ -33,9 +33,9 @@ fn run_short_of_memory(
     count: u32,
 ) -> Result<Result<(), RunError>, AllocError> {
     writer.taken.try_reserve(room)?;
-    let kept = growths(alloc, count)?;
+    let unchanged = growths(alloc, count)?;
     let blocks = take_all(rt, alloc);
-    drop(kept);
+    drop(unchanged);
     let outcome = run_over(alloc, reader, writer);
     drop(blocks);
     Ok(outcome)
@@ -273,7 +273,7 @@ fn fault_is(
 }
 
 #[test]
-fn answers_are_written_before_memory_is_told(rt: HostRuntime) -> Result<(), Fail> {
+fn answers_are_written_before_memory_is_reported(rt: HostRuntime) -> Result<(), Fail> {
     grow_stack(&rt);
     let alloc = rt.alloc();
     // The third line needs more memory than is left: the answers to the first two are written, or that write fails.

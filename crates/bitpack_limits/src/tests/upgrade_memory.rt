@@ -4,7 +4,7 @@ use super::list2_memory::turns;
 use super::memory::{grow_stack, take_all};
 use crate::tests::calls::{encode1, encode2, upgrade};
 use crate::tests::checks::{
-    kept_bytes, nine, returns, room_for, same_bytes, same_number, succeeds,
+    nine, returns, room_for, same_bytes, same_number, succeeds, unchanged_bytes,
 };
 use bitpack::{ListError, ListKind};
 use bitpacking::{BitPacker, BitPacker1x, BitPacker4x, BitPacker8x};
@@ -16,39 +16,45 @@ fn upgrade_within<P: BitPacker>(
     rt: &impl Abort,
     alloc: Global,
     packer: &P,
-    text: &[u8],
+    encoding: &[u8],
     out: &mut Vec<u8>,
     spare: usize,
 ) -> Result<(), ListError> {
-    let kept: Vec<u8> = room_for(rt, alloc, spare);
+    let unchanged: Vec<u8> = room_for(rt, alloc, spare);
     let taken = take_all(rt, alloc);
-    drop(kept);
-    let outcome = upgrade(packer, text, out);
+    drop(unchanged);
+    let outcome = upgrade(packer, encoding, out);
     drop(taken);
     outcome
 }
 
 /// With no memory the list is refused, and the vector holds its one item in the room that it had.
-fn is_kept<P: BitPacker>(
+fn is_unchanged<P: BitPacker>(
     rt: &impl Abort,
     alloc: Global,
     packer: &P,
-    text: &[u8],
+    encoding: &[u8],
     error: ListError,
 ) {
     let mut written = nine(rt, alloc);
     let room = written.capacity();
-    let outcome = upgrade_within(rt, alloc, packer, text, &mut written, 0);
-    returns(rt, outcome, Err(error), text);
-    kept_bytes(rt, &written, room);
+    let outcome = upgrade_within(rt, alloc, packer, encoding, &mut written, 0);
+    returns(rt, outcome, Err(error), encoding);
+    unchanged_bytes(rt, &written, room);
 }
 
 /// With room for the one growth `upgrade` succeeds.
-fn grows_once<P: BitPacker>(rt: &impl Abort, alloc: Global, packer: &P, old: &[u8], text: &[u8]) {
+fn grows_once<P: BitPacker>(
+    rt: &impl Abort,
+    alloc: Global,
+    packer: &P,
+    old: &[u8],
+    encoding: &[u8],
+) {
     let mut written = nine(rt, alloc);
-    let outcome = upgrade_within(rt, alloc, packer, old, &mut written, text.len());
+    let outcome = upgrade_within(rt, alloc, packer, old, &mut written, encoding.len());
     succeeds(rt, outcome, old);
-    same_bytes(rt, &written, text);
+    same_bytes(rt, &written, encoding);
 }
 
 /// The version 2 list after one byte, by `encode` and by `upgrade`.
@@ -62,18 +68,18 @@ fn upgraded<P: BitPacker>(
     let mut new = nine(rt, alloc);
     let outcome = encode2(packer, ListKind::Plain, values, &mut new);
     succeeds(rt, outcome, &[]);
-    let mut text = nine(rt, alloc);
-    succeeds(rt, upgrade(packer, old, &mut text), old);
-    same_bytes(rt, &text, &new);
-    text
+    let mut encoding = nine(rt, alloc);
+    succeeds(rt, upgrade(packer, old, &mut encoding), old);
+    same_bytes(rt, &encoding, &new);
+    encoding
 }
 
 /// Values out of order are refused with no memory left.
-fn unsorted_is_kept<P: BitPacker>(rt: &impl Abort, alloc: Global, packer: &P, values: &[u32]) {
+fn unsorted_is_unchanged<P: BitPacker>(rt: &impl Abort, alloc: Global, packer: &P, values: &[u32]) {
     let mut wrapped = Vec::new(alloc);
     let outcome = encode1(packer, ListKind::Sorted, values, &mut wrapped);
     succeeds(rt, outcome, &[]);
-    is_kept(rt, alloc, packer, &wrapped, ListError::NotSorted(1));
+    is_unchanged(rt, alloc, packer, &wrapped, ListError::NotSorted(1));
 }
 
 /// With room for the one growth `upgrade` succeeds; with none it returns `Memory`, but for a fault of the bytes and values out of
@@ -87,15 +93,15 @@ fn one_growth<P: BitPacker>(rt: &impl Abort, alloc: Global, packer: &P) {
     let mut old = Vec::new(alloc);
     let outcome = encode1(packer, ListKind::Plain, &values, &mut old);
     succeeds(rt, outcome, &[]);
-    let text = upgraded(rt, alloc, packer, &values, &old);
-    same_number(rt, text.len(), 1 + 7 + 90 + len * 40 + 20, "bytes");
-    same_number(rt, text.capacity(), text.len(), "room for bytes");
-    grows_once(rt, alloc, packer, &old, &text);
-    is_kept(rt, alloc, packer, &old, ListError::Memory);
-    is_kept(rt, alloc, packer, &text, ListError::BadVersion(9));
+    let encoding = upgraded(rt, alloc, packer, &values, &old);
+    same_number(rt, encoding.len(), 1 + 7 + 90 + len * 40 + 20, "bytes");
+    same_number(rt, encoding.capacity(), encoding.len(), "room for bytes");
+    grows_once(rt, alloc, packer, &old, &encoding);
+    is_unchanged(rt, alloc, packer, &old, ListError::Memory);
+    is_unchanged(rt, alloc, packer, &encoding, ListError::BadVersion(9));
     let short = old.get(..100).unwrap_or(&[]);
-    is_kept(rt, alloc, packer, short, ListError::Short);
-    unsorted_is_kept(rt, alloc, packer, &values);
+    is_unchanged(rt, alloc, packer, short, ListError::Short);
+    unsorted_is_unchanged(rt, alloc, packer, &values);
 }
 
 #[test]
@@ -120,7 +126,7 @@ fn faults_come_before_memory(rt: HostRuntime) {
             ListError::NotSorted(1),
         ),
     ];
-    for (text, error) in cases {
-        is_kept(&rt, rt.alloc(), &BitPacker1x::new(), text, error);
+    for (encoding, error) in cases {
+        is_unchanged(&rt, rt.alloc(), &BitPacker1x::new(), encoding, error);
     }
 }

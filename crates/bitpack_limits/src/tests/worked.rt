@@ -8,10 +8,10 @@ use std::process::Abort;
 use std::test::Fail;
 
 /// The numbers 0, 1, .. below `below`, again and again.
-fn counting(places: &mut [u32], below: u32) {
+fn counting(slots: &mut [u32], below: u32) {
     let mut value = 0;
-    for place in places {
-        *place = value;
+    for slot in slots {
+        *slot = value;
         value = if value.wrapping_add(1) == below {
             0
         } else {
@@ -21,9 +21,9 @@ fn counting(places: &mut [u32], below: u32) {
 }
 
 /// Writes the bytes again and again.
-fn repeated(places: &mut [u8], bytes: &[u8]) {
-    for (place, byte) in places.iter_mut().zip(bytes.iter().cycle()) {
-        *place = *byte;
+fn repeated(slots: &mut [u8], bytes: &[u8]) {
+    for (slot, byte) in slots.iter_mut().zip(bytes.iter().cycle()) {
+        *slot = *byte;
     }
 }
 
@@ -113,9 +113,9 @@ fn one_lane_unpacks_sorted(rt: &impl Abort) {
     let ones = [0xff; 128];
     let mut block = [0; 32];
     let mut value = u32::MAX;
-    for place in &mut block {
+    for slot in &mut block {
         value = value.wrapping_sub(1);
-        *place = value;
+        *slot = value;
     }
     one_lane_unpacks_to(rt, Kind::Sorted(u32::MAX), &ones, 32, &block);
     let last = [u32::MAX; 32];
@@ -253,8 +253,8 @@ fn eight_lanes_of_words(rt: &impl Abort, packer: &BitPacker8x) {
     add_one(&mut block);
     let start = Kind::StrictlySorted(Some(0));
     unpacks_to(rt, packer, start, &[0; 1024], 32, &block);
-    for (place, value) in block.iter_mut().zip([1 << 31, 0].into_iter().cycle()) {
-        *place = value;
+    for (slot, value) in block.iter_mut().zip([1 << 31, 0].into_iter().cycle()) {
+        *slot = value;
     }
     let mut bytes = [0; 1024];
     repeated(&mut bytes, &[0, 0, 0, 0x80]);
@@ -315,8 +315,8 @@ fn sizes(rt: HostRuntime) {
 /// All 0 but one number.
 fn single(at: usize, number: u32) -> [u32; 256] {
     let mut block = [0; 256];
-    if let Some(place) = block.get_mut(at) {
-        *place = number;
+    if let Some(slot) = block.get_mut(at) {
+        *slot = number;
     }
     block
 }

@@ -1,3 +1,3 @@
 -- Lemmas of version 1.
-pub mod OneText1
+pub mod OneEncoding1
 pub mod Soundness1

@@ -1,6 +1,6 @@
 -- Lemmas of version 2.
-pub mod OneText2
-pub mod OrderedTexts
+pub mod OneEncoding2
+pub mod OrderedEncodings
 pub mod Soundness2
 pub mod TailOrder
 pub mod UpgradeSteps

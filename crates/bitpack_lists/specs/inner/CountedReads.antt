@@ -12,7 +12,7 @@ pub record IsEntryOf (rest : List ℕ) (block : ℕ) (entry : Entry) : Type 0 wh
   pub offset : entry.offset ≡ offset_at rest block
   pub last : entry.last ≡ last_at rest block
 
--- one more skip entry or mark was read
+-- one more skip entry or skip key was read
 pub record ReadsEntry (old new : Reads) : Type 0 where
   pub entries : new.entries ≡ old.entries + 1
   pub blocks : new.blocks ≡ old.blocks

@@ -8,7 +8,7 @@ use Rattle.bitpack_lists.specs.Opened.{blocks_of}
 use Rattle.bitpack_lists.specs.Search.{first_reaching}
 use Rattle.bitpack_lists.specs.inner.Searching.{IsFirstFrom, ReadsEntries}
 
--- the first whole block whose mark is the target or more was found, and each mark that was read halved the blocks
+-- the first whole block whose skip key is the target or more was found, and each skip key that was read halved the blocks
 pub record HalvesTo {P : Type 0} {members : Ghosts P} (list : PackedList P members) (target : ℕ) (answer : Option ListBlock) (old new : Reads) : Type 0 where
   pub found : IsFirstFrom list target 0 answer
   pub halves : (digits : ℕ) → blocks_of list < 2 ^ digits → new.entries ≤ old.entries + digits

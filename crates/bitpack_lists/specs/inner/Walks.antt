@@ -9,7 +9,7 @@ use Rattle.bitpack_lists.specs.declared.blocks.reads.Reads.{Reads}
 use Rattle.bitpack_lists.specs.declared.list_kind.ListKind.TheVariants as lists
 use Rattle.bitpack_lists.specs.Parts.{whole_blocks}
 use Rattle.bitpack_lists.specs.Search.{HasGrown}
-use Rattle.bitpack_lists.specs.inner.Searching.{IsKept, value_of}
+use Rattle.bitpack_lists.specs.inner.Searching.{IsCached, value_of}
 
 -- ---- one value
 
@@ -48,18 +48,18 @@ pub record IsShared (one other : Values) (done want : ℕ) (shared : List ℕ) :
 -- how many searches a position in the other list allows: two for each value before it, and one more if its value is wanted, or if
 -- nothing is
 abbrev pub Allows : Values → ℕ → ℕ → ℕ → Type 0
-Allows other want place searches =
-    (searches ≤ 2 * place)
-    ⊎ (((searches ≤ 2 * place + 1) × (place < other.count) × (other.value place ≡ want))
+Allows other want passed_to searches =
+    (searches ≤ 2 * passed_to)
+    ⊎ (((searches ≤ 2 * passed_to + 1) × (passed_to < other.count) × (other.value passed_to ≡ want))
     ⊎ ((want ≡ 2 ^ 32) × (searches ≤ 2 * other.count + 1)))
 
 -- a position in the other list before which all is below what is wanted
 pub record IsPast (other : Values) (want count searches : ℕ) : Type 0 where
-  pub place : ℕ
-  pub within : place ≤ other.count
-  pub passed : (k : ℕ) → k < place → other.value k < want
-  pub few : count ≤ place
-  pub allows : Allows other want place searches
+  pub passed_to : ℕ
+  pub within : passed_to ≤ other.count
+  pub passed : (k : ℕ) → k < passed_to → other.value k < want
+  pub few : count ≤ passed_to
+  pub allows : Allows other want passed_to searches
 
 -- the block of the other list that was unpacked last, if it has this one, and how many were unpacked since the count was `start`
 pub record IsLastBlock (lanes : ℕ) (other : Values) (want block start blocks : ℕ) : Type 0 where
@@ -68,19 +68,19 @@ pub record IsLastBlock (lanes : ℕ) (other : Values) (want block start blocks :
   pub none : whole_blocks lanes (other.count) ≤ block → blocks ≤ start
 
 -- what a walk began with: the items of the vector, and the counts of the list that is walked and of the one that is searched
-pub record Begun : Type 0 where
+pub record Started : Type 0 where
   pub items : List ℕ
   pub reads : Reads
   pub other_reads : Reads
 
-abbrev pub begun_with : List ℕ → Reads → Reads → Begun
-begun_with items reads other_reads = record { items = items; reads = reads; other_reads = other_reads }
+abbrev pub started_with : List ℕ → Reads → Reads → Started
+started_with items reads other_reads = record { items = items; reads = reads; other_reads = other_reads }
 
 -- how far a walk has come: `done` values of one list were visited, and `blocks` blocks of it were unpacked. For each of these
 -- blocks a value was searched, but for one while what is wanted is below `due`.
 pub record Stage : Type 0 where
   pub one : Values
-  pub begun : Begun
+  pub started : Started
   pub done : ℕ
   pub blocks : ℕ
   pub due : ℕ
@@ -89,21 +89,21 @@ pub record Stage : Type 0 where
 pub record IsWalked (lanes : ℕ) (other : Values) (stage : Stage) (want last : ℕ) (items : List ℕ) (capacity : ℕ) (other_reads : Reads) : Type 0 where
   pub shared : List ℕ
   pub searches : ℕ
-  pub items_are : items ≡ stage.begun.items ++ shared
-  pub room : length stage.begun.items + min stage.one.count other.count ≤ capacity
+  pub items_are : items ≡ stage.started.items ++ shared
+  pub room : length stage.started.items + min stage.one.count other.count ≤ capacity
   pub is_shared : IsShared stage.one other stage.done want shared
   pub past : IsPast other want (length shared) searches
   pub few : length shared ≤ stage.done
   pub each : searches ≤ stage.done
-  pub last_block : IsLastBlock lanes other want last stage.begun.other_reads.blocks other_reads.blocks
-  pub blocks : other_reads.blocks ≤ stage.begun.other_reads.blocks + searches
-  pub entries : (digits : ℕ) → whole_blocks lanes other.count < 2 ^ digits → other_reads.entries ≤ stage.begun.other_reads.entries + searches * digits
-  pub grown : HasGrown stage.begun.other_reads other_reads
-  pub paid : (stage.blocks ≤ stage.begun.reads.blocks + searches) ⊎ ((stage.blocks ≤ stage.begun.reads.blocks + searches + 1) × (want < stage.due))
+  pub last_block : IsLastBlock lanes other want last stage.started.other_reads.blocks other_reads.blocks
+  pub blocks : other_reads.blocks ≤ stage.started.other_reads.blocks + searches
+  pub entries : (digits : ℕ) → whole_blocks lanes other.count < 2 ^ digits → other_reads.entries ≤ stage.started.other_reads.entries + searches * digits
+  pub grown : HasGrown stage.started.other_reads other_reads
+  pub paid : (stage.blocks ≤ stage.started.reads.blocks + searches) ⊎ ((stage.blocks ≤ stage.started.reads.blocks + searches + 1) × (want < stage.due))
 
 -- `more` more values were visited
 abbrev pub further : Stage → ℕ → Stage
-further stage more = record { one = stage.one; begun = stage.begun; done = stage.done + more; blocks = stage.blocks; due = stage.due }
+further stage more = record { one = stage.one; started = stage.started; done = stage.done + more; blocks = stage.blocks; due = stage.due }
 
 -- the values that are visited next, of values in order
 pub record AreNext (stage : Stage) (values : List ℕ) : Type 0 where
@@ -119,17 +119,17 @@ module _ {P : Type 0} {members : Ghosts P} (list : PackedList P members) where
   values_in = record { value = value_of list; count = list.count }
 
   -- between two blocks of the list, when none is due
-  abbrev pub stage_in : Begun → ℕ → ℕ → Stage
-  stage_in begun done blocks = record { one = values_in; begun = begun; done = done; blocks = blocks; due = 0 }
+  abbrev pub stage_in : Started → ℕ → ℕ → Stage
+  stage_in started done blocks = record { one = values_in; started = started; done = done; blocks = blocks; due = 0 }
 
   -- the list is searched by a walk that has come this far
   pub record IsWalking {A : Type 0} (stage : Stage) (walk : Walk) (out : Vec ℕ A) (reads : Reads) : Type 0 where
     pub ordered : list.kind ≢ lists.Plain
-    pub kept : IsKept list walk.kept
-    pub walked : IsWalked members.lanes values_in stage walk.want walk.kept.number out.items (vec_capacity out) reads
+    pub cached : IsCached list walk.cached
+    pub walked : IsWalked members.lanes values_in stage walk.want walk.cached.number out.items (vec_capacity out) reads
 
 module _ {P Q : Type 0} {members : Ghosts P} {others : Ghosts Q} (one : PackedList P members) (other : PackedList Q others) where
   -- `done` values of one list were visited by a walk that searches them in the other
-  pub record IsWalkingOver {A : Type 0} (begun : Begun) (done blocks : ℕ) (walk : Walk) (out : Vec ℕ A) (reads : Reads) : Type 0 where
+  pub record IsWalkingOver {A : Type 0} (started : Started) (done blocks : ℕ) (walk : Walk) (out : Vec ℕ A) (reads : Reads) : Type 0 where
     pub ordered : one.kind ≢ lists.Plain
-    pub walking : IsWalking other (stage_in one begun done blocks) walk out reads
+    pub walking : IsWalking other (stage_in one started done blocks) walk out reads

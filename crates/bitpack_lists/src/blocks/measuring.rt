@@ -10,11 +10,11 @@ use crate::list_kind::{ListKind, next_kind};
 use bitpacking::{BitPacker, Kind};
 
 /// How many widths are cached from the measuring of a list to its writing. Later blocks are measured twice.
-pub(crate) const KEPT_WIDTHS: usize = 1024;
+pub(crate) const CACHED_WIDTHS: usize = 1024;
 
 /// The length in bytes of the encoded list of the values in version 1, which has one byte for each whole block beside its body. Caches
 /// the least widths of the first blocks.
-pub(crate) fn text_len<P: BitPacker>(
+pub(crate) fn encoding_len<P: BitPacker>(
     packer: &P,
     kind: ListKind,
     values: &[u32],
@@ -62,7 +62,7 @@ pub(crate) fn blocks_len<P: BitPacker>(
     for index in 0..blocks {
         let (block, after) = rest.split_at(len);
         let width = packer.num_bits_kind(kind, block);
-        keep_width(widths, index, width);
+        cache_width(widths, index, width);
         size += entry_len + P::compressed_block_size(width);
         kind = next_kind(kind, block[len - 1]);
         rest = after;
@@ -71,8 +71,8 @@ pub(crate) fn blocks_len<P: BitPacker>(
 }
 
 /// Caches the width of the block with this index, if there is room for it.
-fn keep_width(widths: &mut [u8], index: usize, width: u8)
-    ensures kept { index < length widths.old → take (index + 1) widths.new ≡ take index widths.old ++ width ∷ [] }
+fn cache_width(widths: &mut [u8], index: usize, width: u8)
+    ensures cached { index < length widths.old → take (index + 1) widths.new ≡ take index widths.old ++ width ∷ [] }
     ensures past { length widths.old ≤ index → widths.new ≡ widths.old }
 {
     if index < widths.len() {
@@ -89,7 +89,7 @@ pub(crate) fn width_of<P: BitPacker>(
     index: usize,
 ) -> u8
     requires block { length block.now ≡ P.BLOCK_LEN }
-    requires kept { index < length widths.now → IsWidth kind block.now (slice_index widths.now index) }
+    requires cached { index < length widths.now → IsWidth kind block.now (slice_index widths.now index) }
     ensures width { IsWidth kind block.now result }
     ensures narrow { result ≤ 32 }
 {

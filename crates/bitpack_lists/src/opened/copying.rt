@@ -21,7 +21,7 @@ impl<'a, P: BitPacker> PackedList<'a, P> {
         ensures memory { IfErr result (λ e. e ≡ ListError.Memory) }
         ensures room { OnErr result (vec_capacity out.old < vec_len out.old + length (values self.now)) }
         ensures unchanged { OnErr result (out.new.items ≡ out.old.items) }
-        ensures kept { OnErr result (vec_capacity out.new ≡ vec_capacity out.old) }
+        ensures capacity { OnErr result (vec_capacity out.new ≡ vec_capacity out.old) }
     {
         if out.reserve(self.count).is_err() {
             return Err(ListError::Memory);
@@ -45,7 +45,7 @@ impl<'a, P: BitPacker> PackedList<'a, P> {
         for number in 0..self.count / len {
             let block = ListBlock { number, kind };
             self.unpack_block(block, &mut out[number * len..number * len + len], reads);
-            kind = next_kind(first, self.mark(number, reads));
+            kind = next_kind(first, self.skip_key(number, reads));
         }
         let tail = self.count % len;
         self.read_tail(&mut out[self.count - tail..]);

@@ -1,4 +1,4 @@
-//! A search among the marks of a list by halves. No branch in it depends on a value.
+//! A search among the skip keys of a list by halves. No branch in it depends on a value.
 
 ghost use Rattle.std.specs.Prelude.{◌≡◌, ◌<◌, ◌≤◌};
 
@@ -10,7 +10,7 @@ use bitpacking::BitPacker;
 impl<'a, P: BitPacker> PackedList<'a, P> {
     ghost use Rattle.bitpack_lists.specs.inner.Seeking.{HalvesTo};
 
-    /// The first whole block whose mark is at least the target. Each mark halves the blocks that are left.
+    /// The first whole block whose skip key is at least the target. Each skip key halves the blocks that are left.
     ///
     /// It always goes on from the number of halves, so that the processor guesses no branch wrong.
     pub(super) fn find_by_halves(&self, target: u32, reads: &mut Reads) -> Option<ListBlock>
@@ -22,10 +22,10 @@ impl<'a, P: BitPacker> PackedList<'a, P> {
         let mut before = 0;
         while left > 0 {
             let half = left / 2;
-            let mark = self.mark(low + half, reads);
-            let reached = reaches(mark, target);
+            let skip_key = self.skip_key(low + half, reads);
+            let reached = reaches(skip_key, target);
             low += (left - half) * (1 - reached) as usize;
-            before = choose(reached, mark, before);
+            before = choose(reached, skip_key, before);
             left = half;
         }
         if low == blocks {

@@ -1,7 +1,7 @@
 //! The first value of a slice in order that is at least a target.
 
 ghost use Rattle.std.specs.Prelude.{◌≤◌, length};
-ghost use Rattle.bitpack_lists.specs.Places.{InOrder, IsSoughtFrom};
+ghost use Rattle.bitpack_lists.specs.LowerBounds.{InOrder, IsSoughtFrom};
 
 use bitpacking::MAX_BLOCK_LEN;
 

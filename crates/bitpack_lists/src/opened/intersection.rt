@@ -6,10 +6,10 @@ ghost use Rattle.bitpack_lists.specs.Intersections.{IsCommon, ReadsSearched, Rea
 ghost use Rattle.bitpack_lists.specs.Opened.{kind_of, values};
 ghost use Rattle.bitpack_lists.specs.declared.opened.intersection.Walk.{Walk};
 ghost use Rattle.bitpack_lists.specs.Search.{HasGrown};
-ghost use Rattle.bitpack_lists.specs.inner.Searching.{IsListBlock, UnpacksOne, blocks_of, mark_of_list};
-ghost use Rattle.bitpack_lists.specs.inner.Walks.{Appends, AreNext, Begun, IsWalking, IsWalkingOver, IsWantedNext, Stage, begun_with, further};
+ghost use Rattle.bitpack_lists.specs.inner.Searching.{IsListBlock, UnpacksOne, blocks_of, skip_key_of_list};
+ghost use Rattle.bitpack_lists.specs.inner.Walks.{Appends, AreNext, IsWalking, IsWalkingOver, IsWantedNext, Stage, Started, further, started_with};
 
-use super::{KeptBlock, ListBlock, PackedList};
+use super::{CachedBlock, ListBlock, PackedList};
 use crate::blocks::reads::Reads;
 use crate::list_error::ListError;
 use crate::list_kind::next_kind;
@@ -41,7 +41,7 @@ pub fn intersect<P: BitPacker, Q: BitPacker>(
     ensures room { OnErr result
         (vec_capacity out.old < vec_len out.old + min (length (values a.now)) (length (values b.now))) }
     ensures unchanged { OnErr result (out.new.items ≡ out.old.items) }
-    ensures kept { OnErr result (vec_capacity out.new ≡ vec_capacity out.old) }
+    ensures capacity { OnErr result (vec_capacity out.new ≡ vec_capacity out.old) }
     ensures unread { OnErr result ((reads_a.new ≡ reads_a.old) × (reads_b.new ≡ reads_b.old)) }
 {
     if out.reserve(a.count.min(b.count)).is_err() {
@@ -59,7 +59,7 @@ const NOTHING: u64 = 1 << 32;
 #[derive(Drop)]
 pub(crate) struct Walk {
     pub(crate) want: u64,
-    pub(crate) kept: KeptBlock,
+    pub(crate) cached: CachedBlock,
 }
 
 /// Appends the values that both lists hold. There is room for as many as the shorter list has.
@@ -74,7 +74,7 @@ pub(crate) fn walk_list<P: BitPacker, Q: BitPacker>(
     requires other_ordered { other.now.kind ≢ ListKind.Plain }
     requires room { vec_len out.old + min one.now.count other.now.count ≤ vec_capacity out.old }
     ensures walking { (walk : Walk) × IsWalkingOver one.now other.now
-        (begun_with out.old.items reads.old other_reads.old)
+        (started_with out.old.items reads.old other_reads.old)
         one.now.count reads.new.blocks walk out.new other_reads.new }
     ensures entries { reads.new.entries ≤ reads.old.entries + blocks_of one.now }
     ensures blocks { reads.new.blocks ≤ reads.old.blocks + blocks_of one.now }
@@ -82,16 +82,16 @@ pub(crate) fn walk_list<P: BitPacker, Q: BitPacker>(
 {
     let mut walk = Walk {
         want: 0,
-        kept: KeptBlock::new(),
+        cached: CachedBlock::new(),
     };
     let first = one.kind.first();
     let mut kind = first;
     for number in 0..one.count / P::BLOCK_LEN {
-        // Nothing of the other list is left, so no more marks are read.
+        // Nothing of the other list is left, so no more skip keys are read.
         if walk.want > u32::MAX as u64 {
             return;
         }
-        let last = one.mark(number, reads);
+        let last = one.skip_key(number, reads);
         let block = ListBlock { number, kind };
         walk_block(one, other, block, last, &mut walk, out, reads, other_reads);
         kind = next_kind(first, last);
@@ -111,14 +111,14 @@ fn walk_block<P: BitPacker, Q: BitPacker>(
     other_reads: &mut Reads,
 )
     requires block { IsListBlock one.now block }
-    requires last { last ≡ mark_of_list one.now block.number }
-    requires walking { (begun : Begun) × IsWalkingOver one.now other.now
-        begun (32 * P.lanes * block.number) reads.old.blocks walk.old out.old other_reads.old }
-    ensures walking { (begun : Begun)
+    requires last { last ≡ skip_key_of_list one.now block.number }
+    requires walking { (started : Started) × IsWalkingOver one.now other.now
+        started (32 * P.lanes * block.number) reads.old.blocks walk.old out.old other_reads.old }
+    ensures walking { (started : Started)
         → IsWalkingOver one.now other.now
-        begun (32 * P.lanes * block.number) reads.old.blocks walk.old out.old other_reads.old
+        started (32 * P.lanes * block.number) reads.old.blocks walk.old out.old other_reads.old
         → IsWalkingOver one.now other.now
-        begun (32 * P.lanes * (block.number + 1)) reads.new.blocks walk.new out.new other_reads.new }
+        started (32 * P.lanes * (block.number + 1)) reads.new.blocks walk.new out.new other_reads.new }
     ensures reads { UnpacksOne reads.old reads.new }
 {
     if last as u64 >= walk.want {
@@ -136,12 +136,12 @@ fn walk_tail<P: BitPacker, Q: BitPacker>(
     out: &mut Vec<u32>,
     other_reads: &mut Reads,
 )
-    requires { (begun : Begun) × (blocks : ℕ) × IsWalkingOver one.now other.now
-        begun (32 * P.lanes * blocks_of one.now) blocks walk.old out.old other_reads.old }
-    ensures walking { (begun : Begun) (blocks : ℕ)
+    requires { (started : Started) × (blocks : ℕ) × IsWalkingOver one.now other.now
+        started (32 * P.lanes * blocks_of one.now) blocks walk.old out.old other_reads.old }
+    ensures walking { (started : Started) (blocks : ℕ)
         → IsWalkingOver one.now other.now
-        begun (32 * P.lanes * blocks_of one.now) blocks walk.old out.old other_reads.old
-        → IsWalkingOver one.now other.now begun one.now.count blocks walk.new out.new other_reads.new }
+        started (32 * P.lanes * blocks_of one.now) blocks walk.old out.old other_reads.old
+        → IsWalkingOver one.now other.now started one.now.count blocks walk.new out.new other_reads.new }
 {
     let mut values = [0; MAX_BLOCK_LEN];
     let tail = one.read_tail(&mut values);
@@ -165,7 +165,7 @@ fn walk_values<Q: BitPacker>(
     for index in 0..values.len() {
         let value = values[index];
         if value as u64 >= walk.want {
-            let found = other.seek_kept(value, &mut walk.kept, other_reads);
+            let found = other.seek_cached(value, &mut walk.cached, other_reads);
             walk.want = wanted_next(value, found);
             append_found(value, found, out);
         }

@@ -1,12 +1,12 @@
-//! The first value of a packed list that is at least another, found by halves over the marks.
+//! The first value of a packed list that is at least another, found by halves over the skip keys.
 
 ghost use Rattle.std.specs.Prelude.{◌≡◌, ◌+◌, ◌*◌, ◌^◌, ◌<◌, ◌≤◌, ℕ, length};
-ghost use Rattle.bitpack_lists.specs.Places.{InOrder};
+ghost use Rattle.bitpack_lists.specs.LowerBounds.{InOrder};
 ghost use Rattle.bitpack_lists.specs.Search.{first_reaching};
 ghost use Rattle.bitpack_lists.specs.inner.Seeking.{IsFirstIn};
 
 use super::in_slice::count_below;
-use super::{KeptBlock, ListBlock, PackedList};
+use super::{CachedBlock, ListBlock, PackedList};
 use crate::blocks::reads::Reads;
 use bitpacking::{BitPacker, MAX_BLOCK_LEN};
 
@@ -16,12 +16,12 @@ pub(super) const SHORT_BLOCK_LEN: usize = 128;
 /// The number of no block.
 const NO_BLOCK: usize = usize::MAX;
 
-impl KeptBlock {
+impl CachedBlock {
     /// No block.
-    pub(crate) fn new() -> KeptBlock
+    pub(crate) fn new() -> CachedBlock
         ensures { result.number ≡ NO_BLOCK }
     {
-        KeptBlock {
+        CachedBlock {
             number: NO_BLOCK,
             values: [0; MAX_BLOCK_LEN],
         }
@@ -33,7 +33,7 @@ impl<'a, P: BitPacker> PackedList<'a, P> {
     ghost use Rattle.bitpack_lists.specs.declared.list_kind.ListKind.{ListKind};
     ghost use Rattle.bitpack_lists.specs.Opened.{kind_of, values};
     ghost use Rattle.bitpack_lists.specs.Search.{IsSearched, first_at_least, in_whole_block};
-    ghost use Rattle.bitpack_lists.specs.inner.Searching.{IsFirstBlock, IsInBlock, IsKept, IsListBlock, KeepsBlock, KeepsOne, UnpacksOne, blocks_of, value_of};
+    ghost use Rattle.bitpack_lists.specs.inner.Searching.{CachesBlock, CachesOne, IsCached, IsFirstBlock, IsInBlock, IsListBlock, UnpacksOne, blocks_of, value_of};
 
     /// The first value that is at least the target, with its position, or `None` if every value is below it.
     ///
@@ -50,7 +50,7 @@ impl<'a, P: BitPacker> PackedList<'a, P> {
         }
     }
 
-    /// As `seek`, if this is the first block whose mark is at least the target.
+    /// As `seek`, if this is the first block whose skip key is at least the target.
     fn seek_in_first_block(
         &self,
         block: ListBlock,
@@ -90,53 +90,53 @@ impl<'a, P: BitPacker> PackedList<'a, P> {
     }
 
     /// As `seek`, with the cached block that was unpacked last.
-    pub(crate) fn seek_kept(
+    pub(crate) fn seek_cached(
         &self,
         target: u32,
-        kept: &mut KeptBlock,
+        cached: &mut CachedBlock,
         reads: &mut Reads,
     ) -> Option<(usize, u32)>
         requires ordered { self.now.kind ≢ ListKind.Plain }
-        requires kept { IsKept self.now kept.old }
+        requires cached { IsCached self.now cached.old }
         ensures found { result ≡ first_reaching (value_of self.now) self.now.count target }
-        ensures kept { KeepsOne self.now result kept.old kept.new reads.old reads.new }
+        ensures cached { CachesOne self.now result cached.old cached.new reads.old reads.new }
     {
         match self.find_by_halves(target, reads) {
-            Some(block) => self.seek_in_block(block, target, kept, reads),
+            Some(block) => self.seek_in_block(block, target, cached, reads),
             None => self.seek_in_tail(target),
         }
     }
 
-    /// As `seek_kept`, if this is the first block whose mark is at least the target.
+    /// As `seek_cached`, if this is the first block whose skip key is at least the target.
     fn seek_in_block(
         &self,
         block: ListBlock,
         target: u32,
-        kept: &mut KeptBlock,
+        cached: &mut CachedBlock,
         reads: &mut Reads,
     ) -> Option<(usize, u32)>
         requires ordered { self.now.kind ≢ ListKind.Plain }
         requires block { IsFirstBlock self.now target block }
-        requires kept { IsKept self.now kept.old }
+        requires cached { IsCached self.now cached.old }
         ensures found { result ≡ first_reaching (value_of self.now) self.now.count target }
         ensures inside { in_whole_block P.lanes self.now.count result ≡ true }
         ensures within { IsInBlock self.now block.number result }
-        ensures kept { KeepsBlock self.now block.number kept.old kept.new reads.old reads.new }
+        ensures cached { CachesBlock self.now block.number cached.old cached.new reads.old reads.new }
     {
-        self.cache_block(block, kept, reads);
+        self.cache_block(block, cached, reads);
         let len = P::BLOCK_LEN;
-        first_in_block(&kept.values[..len], len * block.number, target)
+        first_in_block(&cached.values[..len], len * block.number, target)
     }
 
     /// Unpacks a block, unless it is the cached one.
-    pub(crate) fn cache_block(&self, block: ListBlock, kept: &mut KeptBlock, reads: &mut Reads)
+    pub(crate) fn cache_block(&self, block: ListBlock, cached: &mut CachedBlock, reads: &mut Reads)
         requires block { IsListBlock self.now block }
-        requires kept { IsKept self.now kept.old }
-        ensures kept { KeepsBlock self.now block.number kept.old kept.new reads.old reads.new }
+        requires cached { IsCached self.now cached.old }
+        ensures cached { CachesBlock self.now block.number cached.old cached.new reads.old reads.new }
     {
-        if kept.number != block.number {
-            self.unpack_block(block, &mut kept.values, reads);
-            kept.number = block.number;
+        if cached.number != block.number {
+            self.unpack_block(block, &mut cached.values, reads);
+            cached.number = block.number;
         }
     }
 

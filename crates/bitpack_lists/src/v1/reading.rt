@@ -34,7 +34,7 @@ pub fn decode<P: BitPacker>(
         → OnErr result (vec_capacity out.old < vec_len out.old + count_of bytes.now) }
     ensures unchanged { OnErr result (out.new.items ≡ out.old.items) }
     // A refusal allocates nothing either, whatever the header promises.
-    ensures kept { OnErr result (vec_capacity out.new ≡ vec_capacity out.old) }
+    ensures capacity { OnErr result (vec_capacity out.new ≡ vec_capacity out.old) }
 {
     let header = test_version1(packer, bytes)?;
     if out.reserve(header.count).is_err() {

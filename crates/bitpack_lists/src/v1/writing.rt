@@ -9,7 +9,7 @@ ghost use Rattle.bitpack_lists.specs.Chains.{LeastWidths};
 ghost use Rattle.bitpack_lists.specs.Parts.{whole_blocks};
 ghost use Rattle.bitpack_lists.specs.Version1.{Blocks1, IsPart1, List1};
 
-use crate::blocks::measuring::{KEPT_WIDTHS, text_len, width_of};
+use crate::blocks::measuring::{CACHED_WIDTHS, encoding_len, width_of};
 use crate::header::{Header, LONGEST_LIST};
 use crate::list_error::ListError;
 use crate::list_kind::{ListKind, next_kind};
@@ -27,23 +27,23 @@ pub fn encode<P: BitPacker>(
     out: &mut Vec<u8>,
 ) -> Result<(), ListError>
     // What is appended is the encoded list of the values.
-    ensures ok { OnOk result ((text : List ℕ) × AreBytes text × List1 P.lanes kind values.now text
-        × (out.new.items ≡ out.old.items ++ text)) }
+    ensures ok { OnOk result ((encoding : List ℕ) × AreBytes encoding × List1 P.lanes kind values.now encoding
+        × (out.new.items ≡ out.old.items ++ encoding)) }
     // Too many values are refused as such, and others only if memory runs out.
     ensures long { 2 ^ 28 < length values.now → result ≡ Err (ListError.TooLong (length values.now)) }
     ensures memory { length values.now ≤ 2 ^ 28 → IfErr result (λ e. e ≡ ListError.Memory) }
     // Memory runs out only if the vector has no room for the encoded list.
-    ensures room { length values.now ≤ 2 ^ 28 → OnErr result ((text : List ℕ) → List1 P.lanes kind values.now text
-        → vec_capacity out.old < vec_len out.old + length text) }
+    ensures room { length values.now ≤ 2 ^ 28 → OnErr result ((encoding : List ℕ) → List1 P.lanes kind values.now encoding
+        → vec_capacity out.old < vec_len out.old + length encoding) }
     ensures unchanged { OnErr result (out.new.items ≡ out.old.items) }
-    ensures kept { OnErr result (vec_capacity out.new ≡ vec_capacity out.old) }
+    ensures capacity { OnErr result (vec_capacity out.new ≡ vec_capacity out.old) }
 {
     if values.len() > LONGEST_LIST {
         return Err(ListError::TooLong(values.len()));
     }
-    let mut widths = [0; KEPT_WIDTHS];
+    let mut widths = [0; CACHED_WIDTHS];
     if out
-        .reserve(text_len(packer, kind, values, &mut widths))
+        .reserve(encoding_len(packer, kind, values, &mut widths))
         .is_err()
     {
         return Err(ListError::Memory);
@@ -64,11 +64,11 @@ fn write_blocks<P: BitPacker>(
 )
     requires widths { LeastWidths P.lanes kind values.now
         (take (whole_blocks P.lanes (length values.now)) widths.now) }
-    requires room { (text : List ℕ) → Blocks1 P.lanes (whole_blocks P.lanes (length values.now)) kind values.now text
-        → vec_len out.old + length text ≤ vec_capacity out.old }
-    ensures { (text : List ℕ) → AreBytes text
-        → Blocks1 P.lanes (whole_blocks P.lanes (length values.now)) kind values.now text
-        → out.new.items ≡ out.old.items ++ text }
+    requires room { (encoding : List ℕ) → Blocks1 P.lanes (whole_blocks P.lanes (length values.now)) kind values.now encoding
+        → vec_len out.old + length encoding ≤ vec_capacity out.old }
+    ensures { (encoding : List ℕ) → AreBytes encoding
+        → Blocks1 P.lanes (whole_blocks P.lanes (length values.now)) kind values.now encoding
+        → out.new.items ≡ out.old.items ++ encoding }
 {
     let len = P::BLOCK_LEN;
     let blocks = values.len() / len;

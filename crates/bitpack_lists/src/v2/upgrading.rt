@@ -28,9 +28,9 @@ use bitpacking::{BitPacker, Kind, MAX_BLOCK_LEN};
 /// the old one for each whole block.
 pub fn upgrade<P: BitPacker>(packer: &P, bytes: &[u8], out: &mut Vec<u8>) -> Result<(), ListError>
     // The bytes encode some values, and what is appended is the version 2 list of the same.
-    ensures ok { OnOk result ((kind : ListKind) × (values : List ℕ) × (text : List ℕ)
-        × List1 P.lanes kind values bytes.now × AreBytes text × List2 P.lanes kind values text
-        × (out.new.items ≡ out.old.items ++ text)) }
+    ensures ok { OnOk result ((kind : ListKind) × (values : List ℕ) × (encoding : List ℕ)
+        × List1 P.lanes kind values bytes.now × AreBytes encoding × List2 P.lanes kind values encoding
+        × (out.new.items ≡ out.old.items ++ encoding)) }
     // Bytes with a fault of version 1 are refused for the first, values out of order at the first that is, and others only if
     // memory runs out.
     ensures fault { MatchOption (fault1 P.lanes bytes.now) ⊤ (λ fault. result ≡ Err fault) }
@@ -38,10 +38,10 @@ pub fn upgrade<P: BitPacker>(packer: &P, bytes: &[u8], out: &mut Vec<u8>) -> Res
         → MatchOption (first_out kind values) (IfErr result (λ e. e ≡ ListError.Memory))
         (λ position. result ≡ Err (ListError.NotSorted position)) }
     // Memory runs out only if the vector has no room for the new list.
-    ensures room { (kind : ListKind) (values text : List ℕ) → List1 P.lanes kind values bytes.now
-        → List2 P.lanes kind values text → OnErr result (vec_capacity out.old < vec_len out.old + length text) }
+    ensures room { (kind : ListKind) (values encoding : List ℕ) → List1 P.lanes kind values bytes.now
+        → List2 P.lanes kind values encoding → OnErr result (vec_capacity out.old < vec_len out.old + length encoding) }
     ensures unchanged { OnErr result (out.new.items ≡ out.old.items) }
-    ensures kept { OnErr result (vec_capacity out.new ≡ vec_capacity out.old) }
+    ensures capacity { OnErr result (vec_capacity out.new ≡ vec_capacity out.old) }
 {
     let header = test_version1(packer, bytes)?;
     let rest = &bytes[HEADER_LEN..];

@@ -10,7 +10,7 @@ ghost use Rattle.bitpack_lists.specs.Parts.{first_kind, tail_values, whole_block
 ghost use Rattle.bitpack_lists.specs.Version2.{List2, first_out, tail_start};
 ghost use Rattle.bitpack_lists.specs.inner.Opening.{HasBodies};
 
-use crate::blocks::measuring::{KEPT_WIDTHS, blocks_len, width_of};
+use crate::blocks::measuring::{CACHED_WIDTHS, blocks_len, width_of};
 use crate::blocks::order;
 use crate::blocks::reads::{ENTRY_LEN, Entry, Reads};
 use crate::header::{HEADER_LEN, Header, LONGEST_LIST};
@@ -31,8 +31,8 @@ pub fn encode<P: BitPacker>(
     out: &mut Vec<u8>,
 ) -> Result<(), ListError>
     // What is appended is the encoded list of the values.
-    ensures ok { OnOk result ((text : List ℕ) × AreBytes text × List2 P.lanes kind values.now text
-        × (out.new.items ≡ out.old.items ++ text)) }
+    ensures ok { OnOk result ((encoding : List ℕ) × AreBytes encoding × List2 P.lanes kind values.now encoding
+        × (out.new.items ≡ out.old.items ++ encoding)) }
     // Too many values are refused as such, values out of order at the first that is, and others only if memory runs out.
     ensures long { 2 ^ 28 < length values.now → result ≡ Err (ListError.TooLong (length values.now)) }
     ensures order { length values.now ≤ 2 ^ 28
@@ -40,10 +40,10 @@ pub fn encode<P: BitPacker>(
         (λ position. result ≡ Err (ListError.NotSorted position)) }
     // Memory runs out only if the vector has no room for the encoded list.
     ensures room { length values.now ≤ 2 ^ 28 → first_out kind values.now ≡ None
-        → OnErr result ((text : List ℕ) → List2 P.lanes kind values.now text
-        → vec_capacity out.old < vec_len out.old + length text) }
+        → OnErr result ((encoding : List ℕ) → List2 P.lanes kind values.now encoding
+        → vec_capacity out.old < vec_len out.old + length encoding) }
     ensures unchanged { OnErr result (out.new.items ≡ out.old.items) }
-    ensures kept { OnErr result (vec_capacity out.new ≡ vec_capacity out.old) }
+    ensures capacity { OnErr result (vec_capacity out.new ≡ vec_capacity out.old) }
 {
     if values.len() > LONGEST_LIST {
         return Err(ListError::TooLong(values.len()));
@@ -51,9 +51,9 @@ pub fn encode<P: BitPacker>(
     if let Some(position) = order::first_out(kind, 0, 0, values) {
         return Err(ListError::NotSorted(position));
     }
-    let mut widths = [0; KEPT_WIDTHS];
+    let mut widths = [0; CACHED_WIDTHS];
     if out
-        .reserve(text_len(packer, kind, values, &mut widths))
+        .reserve(encoding_len(packer, kind, values, &mut widths))
         .is_err()
     {
         return Err(ListError::Memory);
@@ -68,7 +68,12 @@ pub fn encode<P: BitPacker>(
 }
 
 /// The length in bytes of the encoded list of the values. Caches the least widths of the first blocks.
-fn text_len<P: BitPacker>(packer: &P, kind: ListKind, values: &[u32], widths: &mut [u8]) -> usize
+fn encoding_len<P: BitPacker>(
+    packer: &P,
+    kind: ListKind,
+    values: &[u32],
+    widths: &mut [u8],
+) -> usize
     requires few { length values.now ≤ 2 ^ 28 }
     ensures room { HEADER_LEN + ENTRY_LEN * whole_blocks P.lanes (length values.now) ≤ result }
     ensures len { (all : List ℕ) → length all ≡ whole_blocks P.lanes (length values.now)

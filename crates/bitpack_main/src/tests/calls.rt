@@ -1,7 +1,7 @@
 //! When a run reads and writes, and how often.
 //!
 //! The number of calls is worked by hand: an input is read in pieces of at most 65,536 bytes, and answers are written when
-//! that many bytes are held, and before each read.
+//! that many bytes are buffered, and before each read.
 
 use super::fakes::{Asker, Giver, Hearer, Taker};
 use super::running::{run_asking, run_over};
@@ -27,7 +27,7 @@ fn asks_in_time(rt: &impl Abort, alloc: Global, input: &str, read: usize, writte
 
 #[test]
 fn each_line_is_answered_before_the_next_read(rt: HostRuntime) -> Result<(), Fail> {
-    // 40,000 bytes, with answers of 128,000 bytes: more than are held.
+    // 40,000 bytes, with answers of 128,000 bytes: more than are buffered.
     let input = text_of(rt.alloc(), &[Part::Repeated(ZEROS, 2000)])?;
     for read in [1, 19, 20, 21, 100_000] {
         for written in [1, 3, 100_000] {

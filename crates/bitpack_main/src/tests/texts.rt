@@ -45,8 +45,8 @@ fn push_counted(
     count: usize,
 ) -> Result<(), AllocError> {
     let mut number = first;
-    for place in 0..count {
-        push_number(alloc, all, number, place == 0)?;
+    for position in 0..count {
+        push_number(alloc, all, number, position == 0)?;
         number = number.wrapping_add(step);
     }
     Ok(())

@@ -1,5 +1,5 @@
 -- A walk through the documents of a word: what is unpacked, and which documents are past.
-use Rattle.std.specs.Prelude.{◌≡◌, ℕ, ◌+◌, ◌-◌, ◌*◌, ◌<◌, ◌≤◌, ◌⊎◌, List, ◌∷◌, ◌++◌, length, min, slice_index, take}
+use Rattle.std.specs.Prelude.{◌≡◌, ℕ, ◌+◌, ◌-◌, ◌*◌, ◌^◌, ◌<◌, ◌≤◌, ◌⊎◌, List, ◌∷◌, ◌++◌, length, min, slice_index, take}
 use Rattle.std.specs.List.{count_by, sum_by}
 use Rattle.bitpack_ranked.specs.declared.found.Scored.{Scored}
 use Rattle.bitpack_ranked.specs.declared.walk.Walk.{Walk}
@@ -27,22 +27,22 @@ pub record IsUnpacked (word : Word) (block : ℕ) (walk : Walk) : Type 0 where
   pub counts : AreOfBlock word.counts block walk.len walk.counts
 
 -- a document is at a position of a word, with its count
-pub record IsAt (word : Word) (place x n : ℕ) : Type 0 where
-  pub within : place < length word.ids
-  pub id : slice_index word.ids place ≡ x
-  pub count : slice_index word.counts place ≡ n
+pub record IsAt (word : Word) (position x n : ℕ) : Type 0 where
+  pub within : position < length word.ids
+  pub id : slice_index word.ids position ≡ x
+  pub count : slice_index word.counts position ≡ n
 
 -- a document is at a position of a word, with the part that the word adds to its score
-pub record HasPart (word : Word) (place x class p : ℕ) : Type 0 where
-  pub within : place < length word.ids
-  pub id : slice_index word.ids place ≡ x
-  pub part : part_at word.table (slice_index word.counts place) class ≡ p
+pub record HasPart (word : Word) (position x class p : ℕ) : Type 0 where
+  pub within : position < length word.ids
+  pub id : slice_index word.ids position ≡ x
+  pub part : part_at word.table (slice_index word.counts position) class ≡ p
 
 -- a document is at a position of a word, with what the word and those after it add to its score
-pub record HasScore (word : Word) (after : List Word) (classes : List ℕ) (place x s : ℕ) : Type 0 where
-  pub within : place < length word.ids
-  pub id : slice_index word.ids place ≡ x
-  pub score : part_at word.table (slice_index word.counts place) (slice_index classes x) + sum_by (part_in classes x) after ≡ s
+pub record HasScore (word : Word) (after : List Word) (classes : List ℕ) (position x s : ℕ) : Type 0 where
+  pub within : position < length word.ids
+  pub id : slice_index word.ids position ≡ x
+  pub score : part_at word.table (slice_index word.counts position) (slice_index classes x) + sum_by (part_in classes x) after ≡ s
 
 -- a part by this class is not less than one by the other
 abbrev pub Covers : ℕ → ℕ → Type 0
@@ -58,7 +58,27 @@ pub record IsPast (words : List Word) (classes : List ℕ) (at_least index : ℕ
   pub past : 0 < count_by (has_word document.id) (take index words)
 
 -- a hit that has one of the words before, or has the word at a position below one
-pub record IsPastIn (before : List Word) (word : Word) (after : List Word) (classes : List ℕ) (at_least place : ℕ) (document : Scored) : Type 0 where
+pub record IsPastIn (before : List Word) (word : Word) (after : List Word) (classes : List ℕ) (at_least position : ℕ) (document : Scored) : Type 0 where
   pub hit : IsHit (before ++ word ∷ after) classes at_least document
   pub past : (0 < count_by (has_word document.id) before)
-      ⊎ ((position_of word.ids document.id < place) × (position_of word.ids document.id < length word.ids))
+      ⊎ ((position_of word.ids document.id < position) × (position_of word.ids document.id < length word.ids))
+
+-- ---- many documents
+
+-- the part of a word was added to the score of each document
+abbrev pub Adds : Word → List ℕ → List ℕ → List ℕ → List ℕ → Type 0
+Adds word classes ids old new = (k : ℕ) → k < length ids
+    → (slice_index new k ≡ slice_index old k + part_in classes (slice_index ids k) word) × (slice_index new k < slice_index old k + 2 ^ 32)
+
+-- what no part of a word is above was added to the bound of each document
+abbrev pub AddsMost : Word → List ℕ → List ℕ → List ℕ → List ℕ → Type 0
+AddsMost word classes ids old new = (k : ℕ) → k < length ids
+    → (slice_index old k + part_in classes (slice_index ids k) word ≤ slice_index new k) × (slice_index new k < slice_index old k + 2 ^ 32)
+
+-- all ids of the blocks before one are below this
+abbrev pub IsAfter : Word → ℕ → ℕ → Type 0
+IsAfter word block id = (j : ℕ) → j < 128 * block → j < length word.ids → slice_index word.ids j < id
+
+-- no count is above this, from a block on to another
+abbrev pub IsMostCount : ℕ → Word → ℕ → ℕ → Type 0
+IsMostCount most word from end = (k : ℕ) → 128 * from ≤ k → k < 128 * end → k < length word.ids → slice_index word.counts k ≤ most

@@ -2,7 +2,7 @@
 
 ghost use Rattle.std.specs.Prelude.{◌≡◌, ℕ, ◌/◌, ◌<◌, ◌≢◌, true, false};
 ghost use Rattle.bitpack_sets.specs.Bitmaps.{has_bit};
-ghost use Rattle.bitpack_sets.specs.Operations.{holds};
+ghost use Rattle.bitpack_sets.specs.Operations.{apply};
 ghost use Rattle.bitpack_sets.specs.Reads.{has};
 ghost use Rattle.bitpack_sets.specs.Sets.{IsRising};
 
@@ -17,7 +17,7 @@ pub(crate) fn combine(
 )
     requires { IsRising 0 256 highs.now }
     ensures own { (x : ℕ) → x < 65536 → has (x / 256) highs.now ≡ true
-        → has_bit words.new x ≡ holds operation (has_bit words.old x) (has_bit others.now x) }
+        → has_bit words.new x ≡ apply operation (has_bit words.old x) (has_bit others.now x) }
     ensures rest { (x : ℕ) → x < 65536 → has (x / 256) highs.now ≡ false → has_bit words.new x ≡ has_bit words.old x }
 {
     for high in highs {
@@ -29,7 +29,7 @@ pub(crate) fn combine(
 #[inline(always)]
 fn combine_slice(operation: Operation, high: usize, words: &mut [u64; 1024], others: &[u64; 1024])
     requires { high < 256 }
-    ensures own { (x : ℕ) → x / 256 ≡ high → has_bit words.new x ≡ holds operation (has_bit words.old x) (has_bit others.now x) }
+    ensures own { (x : ℕ) → x / 256 ≡ high → has_bit words.new x ≡ apply operation (has_bit words.old x) (has_bit others.now x) }
     ensures rest { (x : ℕ) → x / 256 ≢ high → has_bit words.new x ≡ has_bit words.old x }
 {
     for i in 4 * high..4 * high + 4 {

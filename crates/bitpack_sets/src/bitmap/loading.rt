@@ -1,13 +1,13 @@
 //! Loads the numbers of a chunk into its bitmap.
 
 ghost use Rattle.std.specs.Prelude.{◌≡◌, ◌⊎◌, ℕ, ◌+◌, ◌*◌, ◌/◌, ◌<◌, ◌≤◌, true, false, length, slice_index};
-ghost use Rattle.bitpack_sets.specs.Bitmaps.{Holds, has_bit, has_high};
+ghost use Rattle.bitpack_sets.specs.Bitmaps.{Represents, has_bit, has_high};
 ghost use Rattle.bitpack_sets.specs.Chunks.{lows_of};
 ghost use Rattle.bitpack_sets.specs.Reads.{has};
 ghost use Rattle.bitpack_sets.specs.Sets.{IsRising};
 ghost use Rattle.bitpack_sets.specs.Slices.{IsBlocks, block_numbers};
 
-use crate::bitmap::marking::{set_bit, slice_bits};
+use crate::bitmap::single_bits::{set_bit, slice_bits};
 use crate::blocks::Blocks;
 use crate::slice::byte_len;
 
@@ -24,7 +24,7 @@ pub(crate) fn block_highs(body: &[u8]) -> [u64; 4]
 pub(crate) fn load_blocks(body: &[u8], highs: &[u32], words: &mut [u64; 1024])
     requires blocks { IsBlocks (length (block_numbers body.now)) body.now }
     requires highs { IsRising 0 256 highs.now }
-    ensures { Holds highs.now words.new (block_numbers body.now) }
+    ensures { Represents highs.now words.new (block_numbers body.now) }
 {
     let mut starts = [0; 257];
     let blocks = Blocks::new(body, &mut starts);
@@ -63,7 +63,7 @@ pub(crate) fn integer_highs(size: usize, bytes: &[u8]) -> [u64; 4]
 pub(crate) fn load_integers(size: usize, bytes: &[u8], highs: &[u32], words: &mut [u64; 1024])
     requires size { size ≡ 2 ⊎ size ≡ 4 }
     requires highs { IsRising 0 256 highs.now }
-    ensures { Holds highs.now words.new (lows_of size bytes.now) }
+    ensures { Represents highs.now words.new (lows_of size bytes.now) }
 {
     clear(highs, words);
     for i in 0..bytes.len() / size {

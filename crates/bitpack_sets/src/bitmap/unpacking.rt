@@ -7,7 +7,7 @@ ghost use Rattle.bitpack_sets.specs.Operations.{those};
 ghost use Rattle.bitpack_sets.specs.Queries.{ids_from};
 ghost use Rattle.bitpack_sets.specs.Sets.{IsRising};
 
-use crate::slice::places::unpack_bytes_of;
+use crate::slice::positions::unpack_bytes_of;
 use crate::slice::reading::unpack_ones;
 
 /// Writes the numbers of bits that are 1, of 256, each with `base` added. Returns the index after the last.

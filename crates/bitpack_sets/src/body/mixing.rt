@@ -4,11 +4,11 @@ ghost use Rattle.std.specs.Prelude.{◌≡◌, ◌+◌, ◌*◌, ◌^◌, ◌<�
 ghost use Rattle.bitpack_sets.specs.Bitmaps.{has_bit};
 ghost use Rattle.bitpack_sets.specs.Follows.{Follow};
 ghost use Rattle.bitpack_sets.specs.Lists.{in_bitmap};
-ghost use Rattle.bitpack_sets.specs.Operations.{holds, those};
+ghost use Rattle.bitpack_sets.specs.Operations.{apply, those};
 ghost use Rattle.bitpack_sets.specs.Reads.{has};
 ghost use Rattle.bitpack_sets.specs.Selections.{numbers_at, parts_numbers};
 
-use crate::bitmap::marking::test_bit;
+use crate::bitmap::single_bits::test_bit;
 use crate::bitmap::unpacking::{count_bits, unpack_bits, unpack_bits_within};
 use crate::blocks::Blocks;
 use crate::operation::Operation;
@@ -27,7 +27,7 @@ pub(crate) fn mix(
 ) -> usize
     requires fits { base + 65536 ≤ 2 ^ 32 }
     requires start { at ≤ 2 ^ 32 }
-    ensures { Follow (map (λ i. base + i) (those 65536 (λ x. holds operation (has x (parts_numbers blocks.now)) (in_bitmap others.now words.now x)))) out.old out.new at result }
+    ensures { Follow (map (λ i. base + i) (those 65536 (λ x. apply operation (has x (parts_numbers blocks.now)) (in_bitmap others.now words.now x)))) out.old out.new at result }
 {
     match operation {
         Operation::And => mix_each(Operation::And, blocks, others, words, base, out, at),
@@ -50,7 +50,7 @@ fn mix_each(
 ) -> usize
     requires fits { base + 65536 ≤ 2 ^ 32 }
     requires start { at ≤ 2 ^ 32 }
-    ensures { Follow (map (λ i. base + i) (those 65536 (λ x. holds operation (has x (parts_numbers blocks.now)) (in_bitmap others.now words.now x)))) out.old out.new at result }
+    ensures { Follow (map (λ i. base + i) (those 65536 (λ x. apply operation (has x (parts_numbers blocks.now)) (in_bitmap others.now words.now x)))) out.old out.new at result }
 {
     let mut highs = [0; 256];
     let many = unpack_bits(&operation.highs(&blocks.highs, others), 0, &mut highs, 0);
@@ -88,14 +88,14 @@ fn put_mixed(
     requires high { high < 256 }
     requires fits { base + 256 ≤ 2 ^ 32 }
     requires start { at ≤ 2 ^ 33 }
-    ensures { Follow (map (λ i. base + i) (those 256 (λ i. holds operation (has i (numbers_at slice.entry)) (in_bitmap others.now words.now (256 * high + i))))) out.old out.new at result }
+    ensures { Follow (map (λ i. base + i) (those 256 (λ i. apply operation (has i (numbers_at slice.entry)) (in_bitmap others.now words.now (256 * high + i))))) out.old out.new at result }
 {
     if test_bit(others, high) {
         let from = 4 * high;
         let bits = mix_bits(operation, slice.bits(), &words[from..from + 4]);
         return put_bits(&bits, base, out, at);
     }
-    if !operation.keeps_left() {
+    if !operation.retains_left() {
         return at;
     }
     put_alone(slice, base, out, at)
@@ -105,7 +105,7 @@ fn put_mixed(
 #[inline(always)]
 fn mix_bits(operation: Operation, x: [u64; 4], y: &[u64]) -> [u64; 4]
     requires { length y.now ≡ 4 }
-    ensures { those 256 (has_bit result) ≡ those 256 (λ i. holds operation (has_bit x i) (has_bit y.now i)) }
+    ensures { those 256 (has_bit result) ≡ those 256 (λ i. apply operation (has_bit x i) (has_bit y.now i)) }
 {
     [
         operation.word(x[0], y[0]),

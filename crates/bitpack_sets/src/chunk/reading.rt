@@ -3,7 +3,7 @@
 ghost use Rattle.std.specs.Prelude.{◌≡◌, ◌+◌, ◌*◌, ◌/◌, ◌^◌, ◌<◌, ◌≤◌, ◌++◌, drop, length, map, slice_index, take};
 ghost use Rattle.bitpack_sets.specs.Slices.{AreSlices, IsBlocks, IsSlice, block_numbers, numbers_in, numbers_of, pairs_of, slice_len, slice_numbers, slices_len};
 
-use crate::chunk::search::{number_at, place_of_slice, slice_of};
+use crate::chunk::search::{number_at, offset_of_slice, slice_of};
 use crate::slice::byte_len;
 use crate::slice::reading::{unpack_from, unpack_slice, unpack_slice_from};
 
@@ -54,12 +54,12 @@ fn unpack_parts(
     let mut firsts = [0; 256];
     unpack_slice(counts.len(), highs, 0, &mut firsts, 0);
     let mut next = at;
-    let mut place = 0;
+    let mut offset = 0;
     for i in 0..counts.len() {
         let count = counts[i] as usize + 1;
         let first = base + 256 * firsts[i];
-        next = unpack_from(count, rest, place, first, out, next);
-        place += byte_len(count);
+        next = unpack_from(count, rest, offset, first, out, next);
+        offset += byte_len(count);
     }
     next
 }
@@ -103,17 +103,17 @@ fn unpack_parts_from(
     let mut firsts = [0; 256];
     unpack_slice(counts.len(), highs, 0, &mut firsts, 0);
     let (mut index, mut left) = slice_of(counts, from);
-    let mut place = place_of_slice(counts, index);
+    let mut offset = offset_of_slice(counts, index);
     let mut next = 0;
     while next < out.len() {
         let count = counts[index] as usize + 1;
         let size = byte_len(count);
-        let slice = &slices[place..place + size];
+        let slice = &slices[offset..offset + size];
         let first = base + 256 * firsts[index];
         let wanted = (count - left).min(out.len() - next);
         unpack_slice_from(count, slice, first, left, &mut out[next..next + wanted]);
         next += wanted;
-        place += size;
+        offset += size;
         index += 1;
         left = 0;
     }

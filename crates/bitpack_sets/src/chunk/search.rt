@@ -35,10 +35,10 @@ fn in_parts(highs: &[u8], counts: &[u8], slices: &[u8], number: u16) -> bool
         return false;
     }
     let index = rank_in_slice(counts.len(), highs, high);
-    let place = place_of_slice(counts, index);
+    let offset = offset_of_slice(counts, index);
     let count = counts[index] as usize + 1;
     let size = byte_len(count);
-    in_slice(count, &slices[place..place + size], (number % 256) as u8)
+    in_slice(count, &slices[offset..offset + size], (number % 256) as u8)
 }
 
 /// How many numbers of a body of blocks are below `number`.
@@ -68,10 +68,10 @@ fn rank_in_parts(highs: &[u8], counts: &[u8], slices: &[u8], number: u16) -> usi
     if !in_slice(counts.len(), highs, high) {
         return before;
     }
-    let place = place_of_slice(counts, index);
+    let offset = offset_of_slice(counts, index);
     let count = counts[index] as usize + 1;
     let size = byte_len(count);
-    before + rank_in_slice(count, &slices[place..place + size], (number % 256) as u8)
+    before + rank_in_slice(count, &slices[offset..offset + size], (number % 256) as u8)
 }
 
 /// The number at this position of a body of blocks.
@@ -98,11 +98,11 @@ fn select_in_parts(highs: &[u8], counts: &[u8], slices: &[u8], position: usize) 
     ensures { result ≡ slice_index (numbers_of (slice_numbers (length counts.now) highs.now) counts.now slices.now) position }
 {
     let (index, left) = slice_of(counts, position);
-    let place = place_of_slice(counts, index);
+    let offset = offset_of_slice(counts, index);
     let count = counts[index] as usize + 1;
     let size = byte_len(count);
     let high = select_in_slice(counts.len(), highs, index) as u16;
-    256 * high + select_in_slice(count, &slices[place..place + size], left) as u16
+    256 * high + select_in_slice(count, &slices[offset..offset + size], left) as u16
 }
 
 /// The slice that has the number at a position, and the position of the number in it. Each count less 1 is given.
@@ -122,25 +122,25 @@ pub(crate) fn slice_of(counts: &[u8], position: usize) -> (usize, usize)
 }
 
 /// The index where a slice begins among slices end to end. Each count less 1 is given.
-pub(crate) fn place_of_slice(counts: &[u8], index: usize) -> usize
+pub(crate) fn offset_of_slice(counts: &[u8], index: usize) -> usize
     requires within { index ≤ length counts.now }
     requires few { length counts.now ≤ 256 }
     ensures { result ≡ slices_len (take index counts.now) }
 {
-    let mut place = 0;
+    let mut offset = 0;
     for i in 0..index {
-        place += byte_len(counts[i] as usize + 1);
+        offset += byte_len(counts[i] as usize + 1);
     }
-    place
+    offset
 }
 
 /// The number at this position of a body of numbers.
 #[inline(always)]
-pub(crate) fn number_at(body: &[u8], place: usize) -> u16
-    requires { place < length body.now / 2 }
-    ensures { result ≡ slice_index (pairs_of body.now) place }
+pub(crate) fn number_at(body: &[u8], position: usize) -> u16
+    requires { position < length body.now / 2 }
+    ensures { result ≡ slice_index (pairs_of body.now) position }
 {
-    let bytes = &body[2 * place..2 * place + 2];
+    let bytes = &body[2 * position..2 * position + 2];
     u16::from_le_bytes([bytes[0], bytes[1]])
 }
 
@@ -168,9 +168,9 @@ pub(crate) fn in_numbers(body: &[u8], number: u16) -> bool
     requires { IsRising 0 65536 (pairs_of body.now) }
     ensures { result ≡ has number (pairs_of body.now) }
 {
-    let place = rank_in_numbers(body, number);
-    if place < body.len() / 2 {
-        number_at(body, place) == number
+    let position = rank_in_numbers(body, number);
+    if position < body.len() / 2 {
+        number_at(body, position) == number
     } else {
         false
     }

@@ -5,7 +5,7 @@ ghost use Rattle.std.specs.List.{concat};
 ghost use Rattle.bitpack_sets.specs.Sets.{IsSet, array, in_chunks, parts};
 ghost use Rattle.bitpack_sets.specs.Varints as varints;
 ghost use Rattle.bitpack_sets.specs.Varints.{number};
-ghost use Rattle.bitpack_sets.specs.Written.{bodies, directory, ends_text, head, keys_text, sums_text};
+ghost use Rattle.bitpack_sets.specs.Written.{bodies, directory, ends_encoding, head, keys_encoding, sums_encoding};
 
 use crate::encoding::bodies::write_body;
 use crate::encoding::integers::write_integers;
@@ -126,14 +126,14 @@ pub(crate) fn write_entries(
     out: &mut [u8],
 )
     requires set { IsSet ids.now }
-    requires keys { length keys.old ≡ length (keys_text ids.now) }
-    requires ends { length ends.old ≡ length (ends_text end_size start ids.now) }
-    requires sums { length sums.old ≡ length (sums_text sum_size before ids.now) }
+    requires keys { length keys.old ≡ length (keys_encoding ids.now) }
+    requires ends { length ends.old ≡ length (ends_encoding end_size start ids.now) }
+    requires sums { length sums.old ≡ length (sums_encoding sum_size before ids.now) }
     requires bodies { length out.old ≡ length (concat (bodies ids.now)) }
     requires few { (start ≤ 2 ^ 29) × (before ≤ 2 ^ 28) }
-    ensures keys { keys.new ≡ keys_text ids.now }
-    ensures ends { ends.new ≡ ends_text end_size start ids.now }
-    ensures sums { sums.new ≡ sums_text sum_size before ids.now }
+    ensures keys { keys.new ≡ keys_encoding ids.now }
+    ensures ends { ends.new ≡ ends_encoding end_size start ids.now }
+    ensures sums { sums.new ≡ sums_encoding sum_size before ids.now }
     ensures bodies { out.new ≡ concat (bodies ids.now) }
 {
     let mut left = ids;

@@ -31,7 +31,7 @@ impl<'a> Front<'a> {
     ghost use Rattle.bitpack_sets.specs.Sets.{IsSet, parts};
     ghost use Rattle.bitpack_sets.specs.Varints as varints;
     ghost use Rattle.bitpack_sets.specs.Sets.{in_chunks};
-    ghost use Rattle.bitpack_sets.specs.Written.{bodies, directory, ends_text, keys_text, sums_text};
+    ghost use Rattle.bitpack_sets.specs.Written.{bodies, directory, ends_encoding, keys_encoding, sums_encoding};
 
     /// The chunks of a set with these counts, and these bytes after them.
     pub(crate) fn new(ids: usize, chunks: usize, rest: &'a [u8]) -> Front<'a>
@@ -70,8 +70,8 @@ impl<'a> Front<'a> {
 
     /// Writes the ends of their bodies, each of `size` bytes.
     fn copy_ends(&self, size: usize, out: &mut [u8])
-        requires { length out.old ≡ length (ends_text size 0 (front_ids self.now)) }
-        ensures { out.new ≡ ends_text size 0 (front_ids self.now) }
+        requires { length out.old ≡ length (ends_encoding size 0 (front_ids self.now)) }
+        ensures { out.new ≡ ends_encoding size 0 (front_ids self.now) }
     {
         for chunk in 0..self.chunks - 1 {
             write_at(chunk, size, end_at(self.chunks, self.rest, chunk), out);
@@ -80,8 +80,8 @@ impl<'a> Front<'a> {
 
     /// Writes their sums, each of `size` bytes.
     fn copy_sums(&self, size: usize, out: &mut [u8])
-        requires { length out.old ≡ length (sums_text size 0 (front_ids self.now)) }
-        ensures { out.new ≡ sums_text size 0 (front_ids self.now) }
+        requires { length out.old ≡ length (sums_encoding size 0 (front_ids self.now)) }
+        ensures { out.new ≡ sums_encoding size 0 (front_ids self.now) }
     {
         for chunk in 0..self.chunks - 1 {
             write_at(chunk, size, sum_at(self.chunks, self.rest, chunk), out);
@@ -98,13 +98,13 @@ impl<'a> Front<'a> {
         sums: &mut [u8],
         out: &mut [u8],
     )
-        requires keys { length keys.old ≡ length (keys_text (front_ids self.now)) }
-        requires ends { length ends.old ≡ length (ends_text end_size 0 (front_ids self.now)) }
-        requires sums { length sums.old ≡ length (sums_text sum_size 0 (front_ids self.now)) }
+        requires keys { length keys.old ≡ length (keys_encoding (front_ids self.now)) }
+        requires ends { length ends.old ≡ length (ends_encoding end_size 0 (front_ids self.now)) }
+        requires sums { length sums.old ≡ length (sums_encoding sum_size 0 (front_ids self.now)) }
         requires bodies { length out.old ≡ length (concat (bodies (front_ids self.now))) }
-        ensures keys { keys.new ≡ keys_text (front_ids self.now) }
-        ensures ends { ends.new ≡ ends_text end_size 0 (front_ids self.now) }
-        ensures sums { sums.new ≡ sums_text sum_size 0 (front_ids self.now) }
+        ensures keys { keys.new ≡ keys_encoding (front_ids self.now) }
+        ensures ends { ends.new ≡ ends_encoding end_size 0 (front_ids self.now) }
+        ensures sums { sums.new ≡ sums_encoding sum_size 0 (front_ids self.now) }
         ensures bodies { out.new ≡ concat (bodies (front_ids self.now)) }
     {
         let count = self.count();
@@ -143,14 +143,14 @@ impl<'a> Front<'a> {
     )
         requires set { IsSet ids.now }
         requires next { IsNext (front_ids self.now) ids.now }
-        requires keys { length keys.old ≡ length (keys_text (front_ids self.now ++ ids.now)) }
+        requires keys { length keys.old ≡ length (keys_encoding (front_ids self.now ++ ids.now)) }
         requires sizes { (end_size ≤ 4) × (sum_size ≤ 4) }
-        requires ends { length ends.old ≡ length (ends_text end_size 0 (front_ids self.now ++ ids.now)) }
-        requires sums { length sums.old ≡ length (sums_text sum_size 0 (front_ids self.now ++ ids.now)) }
+        requires ends { length ends.old ≡ length (ends_encoding end_size 0 (front_ids self.now ++ ids.now)) }
+        requires sums { length sums.old ≡ length (sums_encoding sum_size 0 (front_ids self.now ++ ids.now)) }
         requires bodies { length out.old ≡ length (concat (bodies (front_ids self.now ++ ids.now))) }
-        ensures keys { keys.new ≡ keys_text (front_ids self.now ++ ids.now) }
-        ensures ends { ends.new ≡ ends_text end_size 0 (front_ids self.now ++ ids.now) }
-        ensures sums { sums.new ≡ sums_text sum_size 0 (front_ids self.now ++ ids.now) }
+        ensures keys { keys.new ≡ keys_encoding (front_ids self.now ++ ids.now) }
+        ensures ends { ends.new ≡ ends_encoding end_size 0 (front_ids self.now ++ ids.now) }
+        ensures sums { sums.new ≡ sums_encoding sum_size 0 (front_ids self.now ++ ids.now) }
         ensures bodies { out.new ≡ concat (bodies (front_ids self.now ++ ids.now)) }
     {
         let (count, size) = (self.count(), self.size());

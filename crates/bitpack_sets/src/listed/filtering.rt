@@ -3,14 +3,14 @@
 ghost use Rattle.std.specs.Prelude.{◌≡◌, ◌^◌, ◌<◌, ◌≤◌};
 ghost use Rattle.std.specs.List.{filter};
 ghost use Rattle.bitpack_sets.specs.Follows.{Follow};
-ghost use Rattle.bitpack_sets.specs.Lists.{keeps, listed_ids};
+ghost use Rattle.bitpack_sets.specs.Lists.{listed_ids, retains};
 ghost use Rattle.bitpack_sets.specs.Reads.{has};
 ghost use Rattle.bitpack_sets.specs.Selections.{parts_numbers};
 
 use crate::blocks::Blocks;
 use crate::listed::{Listed, put};
 use crate::slice::byte_len;
-use crate::slice::marks::{bytes_from, marks_among};
+use crate::slice::matches::{bytes_from, matches_of_bytes};
 use crate::slice::search::in_slice;
 
 /// Writes the ids whose low 16 bits blocks have, or lack, if there is room for all. Returns the index after the last, or one past the slice
@@ -23,12 +23,12 @@ pub(crate) fn filter(
     at: usize,
 ) -> usize
     requires { at ≤ 2 ^ 32 }
-    ensures { Follow (filter (keeps there (parts_numbers blocks.now)) (listed_ids list.now)) out.old out.new at result }
+    ensures { Follow (filter (retains there (parts_numbers blocks.now)) (listed_ids list.now)) out.old out.new at result }
 {
     let mut next = at;
     for position in 0..list.len() {
         let id = list.at(position);
-        let found = is_among(blocks, (id % 65536) as usize);
+        let found = is_member(blocks, (id % 65536) as usize);
         next = put(id, found == there, out, next);
     }
     next
@@ -36,7 +36,7 @@ pub(crate) fn filter(
 
 /// Whether blocks have a number.
 #[inline(always)]
-pub(crate) fn is_among(blocks: &Blocks, number: usize) -> bool
+pub(crate) fn is_member(blocks: &Blocks, number: usize) -> bool
     requires { number < 65536 }
     ensures { result ≡ has number (parts_numbers blocks.now) }
 {
@@ -44,7 +44,7 @@ pub(crate) fn is_among(blocks: &Blocks, number: usize) -> bool
     let low = (number % 256) as u8;
     if slice.count < 32 {
         let bytes = bytes_from(slice.slices, slice.start);
-        return marks_among(bytes, slice.count, &[low]) != 0;
+        return matches_of_bytes(bytes, slice.count, &[low]) != 0;
     }
     let end = slice.start + byte_len(slice.count);
     in_slice(slice.count, &slice.slices[slice.start..end], low)

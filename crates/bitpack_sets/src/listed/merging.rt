@@ -3,7 +3,7 @@
 ghost use Rattle.std.specs.Prelude.{◌≡◌, ◌^◌, ◌≤◌, [], drop, if◌then◌else◌};
 ghost use Rattle.bitpack_sets.specs.Follows.{Follow};
 ghost use Rattle.bitpack_sets.specs.Lists.{listed_ids};
-ghost use Rattle.bitpack_sets.specs.Operations.{answer, holds};
+ghost use Rattle.bitpack_sets.specs.Operations.{answer, apply};
 
 use crate::listed::{Listed, put};
 use crate::operation::Operation;
@@ -45,14 +45,14 @@ fn merge_each(operation: Operation, a: &Listed, b: &Listed, out: &mut [u32], at:
         i += (x <= y) as usize;
         j += (y <= x) as usize;
     }
-    let end = copy_if(operation.keeps_left(), a, i, out, next);
-    copy_if(operation.keeps_right(), b, j, out, end)
+    let end = copy_if(operation.retains_left(), a, i, out, next);
+    copy_if(operation.retains_right(), b, j, out, end)
 }
 
 /// Whether the answer has an id, by whether each list has it.
 #[inline(always)]
 fn has(operation: Operation, in_a: bool, in_b: bool) -> bool
-    ensures { result ≡ holds operation in_a in_b }
+    ensures { result ≡ apply operation in_a in_b }
 {
     match operation {
         Operation::And => in_a & in_b,

@@ -28,8 +28,8 @@ pub(crate) fn highs_of(set: &IdSet, key: u32) -> [u64; 4]
 {
     let mut room = [0; ROOM];
     let chunks = set.chunks(&mut room);
-    let place = chunks.seek(0, key);
-    chunks.highs(place, chunks.end(place, key))
+    let position = chunks.seek(0, key);
+    chunks.highs(position, chunks.end(position, key))
 }
 
 /// Loads the low 16 bits of ids that have this key, and one of these high bytes.
@@ -40,6 +40,6 @@ pub(crate) fn load_key(set: &IdSet, key: u32, highs: &[u32], words: &mut [u64; 1
 {
     let mut room = [0; ROOM];
     let chunks = set.chunks(&mut room);
-    let place = chunks.seek(0, key);
-    chunks.load(place, chunks.end(place, key), highs, words);
+    let position = chunks.seek(0, key);
+    chunks.load(position, chunks.end(position, key), highs, words);
 }

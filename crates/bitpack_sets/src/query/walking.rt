@@ -7,7 +7,7 @@ ghost use Rattle.bitpack_sets.specs.Queries.{IsLoaded, answer_of, fault_from, id
 use super::running::{all_highs, load_answer, next_key};
 use crate::as_set::AsSet;
 use crate::as_step::AsStep;
-use crate::bitmap::marking::first_bit;
+use crate::bitmap::single_bits::first_bit;
 use crate::bitmap::unpacking::{unpack_bits, unpack_bits_from};
 use crate::chunks::NO_KEY;
 

@@ -8,7 +8,7 @@ ghost use Rattle.bitpack_sets.specs.Slices.{IsSlice, number_of, ones_from, slice
 
 use crate::bitmap::unpacking::unpack_many;
 use crate::slice::byte_len;
-use crate::slice::places::unpack_32;
+use crate::slice::positions::unpack_32;
 
 /// Writes the numbers of the slice of `count` that begins at `start`, each with `base` added. Returns the index after the last.
 ///
@@ -132,9 +132,9 @@ fn unpack_bytes(bytes: &[u8], base: u32, out: &mut [u32], at: usize) -> usize
     ensures end { result ≡ at + length bytes.now }
     ensures values { take result out.new ≡ take at out.old ++ map (λ i. base + i) bytes.now }
 {
-    let places = &mut out[at..at + bytes.len()];
+    let positions = &mut out[at..at + bytes.len()];
     for i in 0..bytes.len() {
-        places[i] = base + bytes[i] as u32;
+        positions[i] = base + bytes[i] as u32;
     }
     at + bytes.len()
 }

@@ -5,9 +5,9 @@ ghost use Rattle.bitpack_sets.specs.Slices.{AreRows, ones_from};
 
 /// The numbers of the bits of a byte that are 1, the lowest first, and then 7.
 #[inline(always)]
-pub(crate) fn places_in(byte: u8) -> [u8; 8]
+pub(crate) fn positions_in(byte: u8) -> [u8; 8]
     ensures small { (k : ℕ) → k < 8 → slice_index result k < 8 }
-    ensures places { take (length (ones_from byte 0 8)) result ≡ ones_from byte 0 8 }
+    ensures positions { take (length (ones_from byte 0 8)) result ≡ ones_from byte 0 8 }
 {
     rows()[byte as usize]
 }

@@ -3,17 +3,17 @@
 ghost use Rattle.std.specs.Prelude.{◌≡◌, ℕ, None, ◌+◌, ◌^◌, ◌<◌, ◌≤◌, ◌&&◌, ◌==◌, ◌++◌, IfSome, false, true, length, map, nat_lt, slice_index, take};
 ghost use Rattle.std.specs.Int.{bit_at};
 ghost use Rattle.bitpack_sets.specs.Bitmaps.{has_bit};
-ghost use Rattle.bitpack_sets.specs.Operations.{combined, holds, those};
+ghost use Rattle.bitpack_sets.specs.Operations.{apply, combined, those};
 ghost use Rattle.bitpack_sets.specs.Reads.{has};
-ghost use Rattle.bitpack_sets.specs.Selections.{bytes_of, marked, numbers_at};
+ghost use Rattle.bitpack_sets.specs.Selections.{bytes_of, matched, numbers_at};
 
 use crate::bitmap::unpacking::{count_bits, unpack_bits_within};
 use crate::operation::Operation;
 use crate::slice::Slice;
-use crate::slice::marks::{bytes_from, marks_among, marks_in_bits};
-use crate::slice::places::unpack_chosen;
+use crate::slice::matches::{bytes_from, matches_in_bits, matches_of_bytes};
+use crate::slice::positions::unpack_chosen;
 
-/// The slices in the order in which the bytes of the first are marked: AND can mark the bytes of either.
+/// The slices in the order in which the bytes of the first are matched: AND can match the bytes of either.
 #[inline(always)]
 pub(crate) fn fewer_first<'a>(
     operation: Operation,
@@ -29,35 +29,35 @@ pub(crate) fn fewer_first<'a>(
     }
 }
 
-/// The marks of the bytes of a slice that another slice has.
+/// The matches of the bytes of a slice that another slice has.
 #[inline(always)]
-fn marks_of(a: Slice, b: Slice) -> u32
+fn matches_of(a: Slice, b: Slice) -> u32
     requires { a.count < 32 }
     ensures { (i : ℕ) → i < 32 → (bit_at result i == 1) ≡ (nat_lt i a.entry.count && has (slice_index (bytes_of a.entry) i) (numbers_at b.entry)) }
 {
     let others = b.bytes();
     if b.count < 32 {
-        marks_among(bytes_from(a.slices, a.start), a.count, others)
+        matches_of_bytes(bytes_from(a.slices, a.start), a.count, others)
     } else if b.count < 256 {
-        marks_in_bits(bytes_from(a.slices, a.start), a.count, others)
+        matches_in_bits(bytes_from(a.slices, a.start), a.count, others)
     } else {
         (1 << a.count) - 1
     }
 }
 
-/// The marks of the bytes of a slice that an operation with another slice gives: those that it has, or lacks.
+/// The matches of the bytes of a slice that an operation with another slice gives: those that it has, or lacks.
 #[inline(always)]
-fn combined_marks(operation: Operation, a: Slice, b: Slice) -> u32
+fn combined_matches(operation: Operation, a: Slice, b: Slice) -> u32
     requires few { a.count < 32 }
-    requires operation { holds operation false true ≡ false }
-    ensures marks { result < 2 ^ length (bytes_of a.entry) }
-    ensures numbers { marked result (bytes_of a.entry) ≡ combined 256 operation (numbers_at a.entry) (numbers_at b.entry) }
+    requires operation { apply operation false true ≡ false }
+    ensures matches { result < 2 ^ length (bytes_of a.entry) }
+    ensures numbers { matched result (bytes_of a.entry) ≡ combined 256 operation (numbers_at a.entry) (numbers_at b.entry) }
 {
-    let marks = marks_of(a, b);
-    if operation.keeps_left() {
-        return ((1 << a.count) - 1) & !marks;
+    let matches = matches_of(a, b);
+    if operation.retains_left() {
+        return ((1 << a.count) - 1) & !matches;
     }
-    marks
+    matches
 }
 
 /// The bits that an operation on two slices gives.
@@ -70,7 +70,7 @@ pub(crate) fn combined_bits(operation: Operation, a: Slice, b: Slice) -> [u64; 4
 
 /// Writes the numbers that an operation gives, each with `base` added, if the first slice has all of them. Returns the index after the last.
 #[inline(always)]
-pub(crate) fn unpack_marked(
+pub(crate) fn unpack_matches(
     operation: Operation,
     a: Slice,
     b: Slice,
@@ -79,15 +79,15 @@ pub(crate) fn unpack_marked(
     at: usize,
 ) -> usize
     requires few { a.count < 32 }
-    requires operation { holds operation false true ≡ false }
+    requires operation { apply operation false true ≡ false }
     requires fits { base + 256 ≤ 2 ^ 32 }
     requires room { at + 32 ≤ length out.old }
     ensures end { result ≡ at + length (combined 256 operation (numbers_at a.entry) (numbers_at b.entry)) }
     ensures values { take result out.new ≡ take at out.old ++ map (λ i. base + i) (combined 256 operation (numbers_at a.entry) (numbers_at b.entry)) }
 {
-    let marks = combined_marks(operation, a, b);
+    let matches = combined_matches(operation, a, b);
     let bytes = bytes_from(a.slices, a.start).to_array();
-    unpack_chosen(&bytes, marks, base, out, at)
+    unpack_chosen(&bytes, matches, base, out, at)
 }
 
 /// Writes the numbers that an operation gives if there is room for them, also if there is none for 256. Returns the index after the last.
@@ -116,18 +116,18 @@ pub(crate) fn unpack_last(
 
 /// How many numbers an operation on two slices gives.
 #[inline(always)]
-pub(crate) fn count_both(operation: Operation, a: Slice, b: Slice) -> usize
+pub(crate) fn count_both<const NUMBER: u8>(operation: Operation, a: Slice, b: Slice) -> usize
     ensures { result ≡ length (combined 256 operation (numbers_at a.entry) (numbers_at b.entry)) }
 {
-    if b.count == 0 && operation.keeps_left() {
+    if b.count == 0 && operation.retains_left() {
         return a.count;
     }
-    if a.count == 0 && operation.keeps_right() {
+    if a.count == 0 && operation.retains_right() {
         return b.count;
     }
     let (few, other) = fewer_first(operation, a, b);
-    if few.count < 32 && !operation.keeps_right() {
-        return combined_marks(operation, few, other).count_ones() as usize;
+    if few.count < 32 && !operation.retains_right() {
+        return combined_matches(operation, few, other).count_ones() as usize;
     }
     count_bits(&combined_bits(operation, a, b))
 }

@@ -28,19 +28,19 @@ pub(crate) fn is_slice(count: usize, bytes: &[u8]) -> bool
 pub(crate) fn are_slices(counts: &[u8], bytes: &[u8]) -> bool
     ensures { Decides result (AreSlices counts.now bytes.now) }
 {
-    let mut place = 0;
+    let mut offset = 0;
     for less in counts {
         let count = *less as usize + 1;
         let size = byte_len(count);
-        if bytes.len() - place < size {
+        if bytes.len() - offset < size {
             return false;
         }
-        if !is_slice_from(count, bytes, place) {
+        if !is_slice_from(count, bytes, offset) {
             return false;
         }
-        place += size;
+        offset += size;
     }
-    place == bytes.len()
+    offset == bytes.len()
 }
 
 /// Whether the bytes from `start` on begin with a slice of `count` numbers.

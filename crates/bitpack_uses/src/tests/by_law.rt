@@ -1,6 +1,6 @@
 //! The uses of laws, once each. The expected widths and bytes were worked by hand from the layout of the bits.
 
-use super::checks::{holds, push_bytes, same_bytes, same_number, same_values};
+use super::checks::{is_true, push_bytes, same_bytes, same_number, same_values};
 use crate::{answered, by_law, by_list_law, untrusted};
 use bitpack::ListKind;
 use bitpacking::{BitPacker, BitPacker1x, BitPacker4x};
@@ -49,56 +49,56 @@ fn values_by_two(rt: &impl Abort) {
 fn width_by_two(rt: &impl Abort) {
     let (packer, other) = (BitPacker4x::new(), BitPacker4x::scalar());
     let widths = by_law::width_by_two(&packer, &other, &[1; 128]);
-    holds(rt, widths == (1, 1), "width 1");
+    is_true(rt, widths == (1, 1), "width 1");
 }
 
-fn text_by_two(rt: &impl Abort, alloc: Global) {
+fn encoding_by_two(rt: &impl Abort, alloc: Global) {
     let (packer, other) = (BitPacker4x::new(), BitPacker4x::scalar());
-    let texts = by_list_law::text_by_two(alloc, &packer, &other, ListKind::Plain, &[5]);
-    let (text, same) = texts.expect(rt, "two texts");
-    same_bytes(rt, &text, &[1, 0, 4, 1, 0, 0, 0, 5, 0, 0, 0]);
-    same_bytes(rt, &text, &same);
+    let encodings = by_list_law::encoding_by_two(alloc, &packer, &other, ListKind::Plain, &[5]);
+    let (encoding, same) = encodings.expect(rt, "two encodings");
+    same_bytes(rt, &encoding, &[1, 0, 4, 1, 0, 0, 0, 5, 0, 0, 0]);
+    same_bytes(rt, &encoding, &same);
 }
 
-fn text_by_upgrade(rt: &impl Abort, alloc: Global) {
+fn encoding_by_upgrade(rt: &impl Abort, alloc: Global) {
     let packer = BitPacker4x::new();
-    let texts = by_list_law::text_by_upgrade(alloc, &packer, ListKind::Plain, &[5]);
-    let (text, same) = texts.expect(rt, "two texts");
-    same_bytes(rt, &text, &[2, 0, 4, 1, 0, 0, 0, 5, 0, 0, 0]);
-    same_bytes(rt, &text, &same);
+    let encodings = by_list_law::encoding_by_upgrade(alloc, &packer, ListKind::Plain, &[5]);
+    let (encoding, same) = encodings.expect(rt, "two encodings");
+    same_bytes(rt, &encoding, &[2, 0, 4, 1, 0, 0, 0, 5, 0, 0, 0]);
+    same_bytes(rt, &encoding, &same);
 }
 
 #[test]
 fn two_packers(rt: HostRuntime) {
     values_by_two(&rt);
     width_by_two(&rt);
-    text_by_two(&rt, rt.alloc());
-    text_by_upgrade(&rt, rt.alloc());
+    encoding_by_two(&rt, rt.alloc());
+    encoding_by_upgrade(&rt, rt.alloc());
 }
 
-fn is_text(rt: &impl Abort, alloc: Global, bytes: &[u8], expected: bool) {
-    let found = untrusted::is_text(alloc, &BitPacker1x::new(), bytes);
-    holds(rt, found.expect(rt, "memory") == expected, "a text");
+fn is_encoding(rt: &impl Abort, alloc: Global, bytes: &[u8], expected: bool) {
+    let found = untrusted::is_encoding(alloc, &BitPacker1x::new(), bytes);
+    is_true(rt, found.expect(rt, "memory") == expected, "an encoding");
 }
 
-fn is_text2(rt: &impl Abort, bytes: &[u8], expected: bool) {
-    let found = untrusted::is_text2(&BitPacker1x::new(), bytes);
-    holds(rt, found == expected, "a text of version 2");
+fn is_encoding2(rt: &impl Abort, bytes: &[u8], expected: bool) {
+    let found = untrusted::is_encoding2(&BitPacker1x::new(), bytes);
+    is_true(rt, found == expected, "an encoding of version 2");
 }
 
 fn answers(rt: &impl Abort, alloc: Global) {
     let mut answers = Vec::new(alloc);
     push_bytes(rt, &mut answers, b"# ");
     let outcome = answered::answer_lines(alloc, b"size 1x 3\n?", &mut answers);
-    holds(rt, outcome.is_ok(), "the lines are answered");
+    is_true(rt, outcome.is_ok(), "the lines are answered");
     same_bytes(rt, &answers, b"# 12\nrefused 1\n");
 }
 
 #[test]
-fn texts_and_lines(rt: HostRuntime) {
-    is_text(&rt, rt.alloc(), &[1, 0, 1, 0, 0, 0, 0], true);
-    is_text(&rt, rt.alloc(), &[1, 0, 1, 0, 0, 0], false);
-    is_text2(&rt, &[2, 0, 1, 0, 0, 0, 0], true);
-    is_text2(&rt, &[2, 0, 1, 0, 0, 0], false);
+fn encodings_and_lines(rt: HostRuntime) {
+    is_encoding(&rt, rt.alloc(), &[1, 0, 1, 0, 0, 0, 0], true);
+    is_encoding(&rt, rt.alloc(), &[1, 0, 1, 0, 0, 0], false);
+    is_encoding2(&rt, &[2, 0, 1, 0, 0, 0, 0], true);
+    is_encoding2(&rt, &[2, 0, 1, 0, 0, 0], false);
     answers(&rt, rt.alloc());
 }

@@ -1,7 +1,7 @@
 //! The calls on packed lists, each once and with no contract. The proof of a test does not read what a call promises, so it is short
 //! if the test calls these.
 
-use super::checks::holds;
+use super::checks::is_true;
 use bitpack::list2::{PackedList, Reads, intersect};
 use bitpack::{ListError, ListKind, list, list2};
 use bitpacking::BitPacker;
@@ -20,10 +20,10 @@ pub(super) fn encode1<P: BitPacker>(
 /// Decodes a version 1 list.
 pub(super) fn decode1<P: BitPacker>(
     packer: &P,
-    text: &[u8],
+    encoding: &[u8],
     out: &mut Vec<u32>,
 ) -> Result<ListKind, ListError> {
-    list::decode(packer, text, out)
+    list::decode(packer, encoding, out)
 }
 
 /// Encodes in version 2.
@@ -39,18 +39,18 @@ pub(super) fn encode2<P: BitPacker>(
 /// Converts a version 1 list to version 2.
 pub(super) fn upgrade<P: BitPacker>(
     packer: &P,
-    text: &[u8],
+    encoding: &[u8],
     out: &mut Vec<u8>,
 ) -> Result<(), ListError> {
-    list2::upgrade(packer, text, out)
+    list2::upgrade(packer, encoding, out)
 }
 
 /// Opens a version 2 list.
 pub(super) fn open<'a, P: BitPacker>(
     packer: &P,
-    text: &'a [u8],
+    encoding: &'a [u8],
 ) -> Result<PackedList<'a, P>, ListError> {
-    PackedList::open(*packer, text)
+    PackedList::open(*packer, encoding)
 }
 
 /// The value at a position.
@@ -72,15 +72,15 @@ pub(super) fn seek<P: BitPacker>(
 }
 
 /// What `intersect` returns for two lists, or `None` if the bytes of one of them are no list in order.
-pub(super) fn intersect_texts<P: BitPacker, Q: BitPacker>(
-    (packer, text): (&P, &[u8]),
-    (other_packer, other_text): (&Q, &[u8]),
+pub(super) fn intersect_encodings<P: BitPacker, Q: BitPacker>(
+    (packer, encoding): (&P, &[u8]),
+    (other_packer, other_encoding): (&Q, &[u8]),
     out: &mut Vec<u32>,
 ) -> Option<Result<(), ListError>> {
-    let Ok(a) = open(packer, text) else {
+    let Ok(a) = open(packer, encoding) else {
         return None;
     };
-    let Ok(b) = open(other_packer, other_text) else {
+    let Ok(b) = open(other_packer, other_encoding) else {
         return None;
     };
     if a.kind() == ListKind::Plain || b.kind() == ListKind::Plain {
@@ -91,5 +91,5 @@ pub(super) fn intersect_texts<P: BitPacker, Q: BitPacker>(
 
 /// Appends all values.
 pub(super) fn unpack<P: BitPacker>(rt: &impl Abort, list: &PackedList<'_, P>, out: &mut Vec<u32>) {
-    holds(rt, list.append_to(out).is_ok(), "memory");
+    is_true(rt, list.append_to(out).is_ok(), "memory");
 }

@@ -3,7 +3,7 @@
 ghost use Rattle.std.proofs.Common.{lit≤, refl, rules};
 
 use super::calls::{decode1, encode1, encode2, open, unpack, upgrade};
-use super::checks::{holds, same_bytes, same_number, same_values, steps, succeeds};
+use super::checks::{is_true, same_bytes, same_number, same_values, steps, succeeds};
 use bitpack::ListKind;
 use bitpacking::{BitPacker, BitPacker1x, Kind};
 use std::alloc::Global;
@@ -110,36 +110,36 @@ fn counted(rt: &impl Abort, counts: &Counts, expected: [usize; 3], what: &str) {
 const KIND: ListKind = ListKind::StrictlySorted;
 
 /// The version 1 bytes of these values. Each block is measured once and packed once.
-fn text1(rt: &impl Abort, alloc: Global, values: &[u32], blocks: usize) -> Vec<u8> {
+fn encoding1(rt: &impl Abort, alloc: Global, values: &[u32], blocks: usize) -> Vec<u8> {
     let counts = new_counts(rt, alloc);
-    let mut text = Vec::new(alloc);
-    let outcome = encode1(&Counting::of(counts), KIND, values, &mut text);
+    let mut encoding = Vec::new(alloc);
+    let outcome = encode1(&Counting::of(counts), KIND, values, &mut encoding);
     succeeds(rt, outcome, &[]);
     counted(rt, counts, [blocks, blocks, 0], "version 1");
-    text
+    encoding
 }
 
 /// Likewise in version 2.
-fn text2(rt: &impl Abort, alloc: Global, values: &[u32], blocks: usize) -> Vec<u8> {
+fn encoding2(rt: &impl Abort, alloc: Global, values: &[u32], blocks: usize) -> Vec<u8> {
     let counts = new_counts(rt, alloc);
-    let mut text = Vec::new(alloc);
-    let outcome = encode2(&Counting::of(counts), KIND, values, &mut text);
+    let mut encoding = Vec::new(alloc);
+    let outcome = encode2(&Counting::of(counts), KIND, values, &mut encoding);
     succeeds(rt, outcome, &[]);
     counted(rt, counts, [blocks, blocks, 0], "version 2");
-    text
+    encoding
 }
 
 #[test]
 fn each_block_is_packed_once(rt: HostRuntime) {
     let values = steps(&rt, rt.alloc(), 0, 3, 32 * 1024 + 7);
-    text1(&rt, rt.alloc(), &values, 1024);
-    text2(&rt, rt.alloc(), &values, 1024);
+    encoding1(&rt, rt.alloc(), &values, 1024);
+    encoding2(&rt, rt.alloc(), &values, 1024);
 }
 
 /// Opening and copying unpack each of five blocks once.
-fn list_unpacks_once(rt: &impl Abort, alloc: Global, text: &[u8], values: &[u32]) {
+fn list_unpacks_once(rt: &impl Abort, alloc: Global, encoding: &[u8], values: &[u32]) {
     let counts = new_counts(rt, alloc);
-    let list = open(&Counting::of(counts), text).expect(rt, "a list");
+    let list = open(&Counting::of(counts), encoding).expect(rt, "a list");
     counted(rt, counts, [0, 0, 5], "open");
     let mut out = Vec::new(alloc);
     unpack(rt, &list, &mut out);
@@ -151,17 +151,21 @@ fn list_unpacks_once(rt: &impl Abort, alloc: Global, text: &[u8], values: &[u32]
 fn each_block_is_unpacked_once(rt: HostRuntime) {
     let alloc = rt.alloc();
     let values = steps(&rt, alloc, 0, 3, 32 * 5 + 7);
-    let one = text1(&rt, alloc, &values, 5);
-    let two = text2(&rt, alloc, &values, 5);
+    let one = encoding1(&rt, alloc, &values, 5);
+    let two = encoding2(&rt, alloc, &values, 5);
     list_unpacks_once(&rt, alloc, &two, &values);
     let counts = new_counts(&rt, alloc);
     let mut out = Vec::new(alloc);
     let found = decode1(&Counting::of(counts), &one, &mut out);
-    holds(&rt, found == Ok(KIND), "a text of version 1");
+    is_true(&rt, found == Ok(KIND), "an encoding of version 1");
     counted(&rt, counts, [0, 0, 5], "decode");
-    let mut text = Vec::new(alloc);
-    succeeds(&rt, upgrade(&Counting::of(counts), &one, &mut text), &one);
-    same_bytes(&rt, &text, &two);
+    let mut encoding = Vec::new(alloc);
+    succeeds(
+        &rt,
+        upgrade(&Counting::of(counts), &one, &mut encoding),
+        &one,
+    );
+    same_bytes(&rt, &encoding, &two);
     // `upgrade` unpacks each block to test it, and once more for its skip entry.
     counted(&rt, counts, [0, 0, 15], "upgrade");
 }

@@ -1,7 +1,7 @@
 //! What is found in packed lists by a search and by an intersection. The bytes and the results were worked by hand.
 
 use super::calls::open;
-use super::checks::{holds, returns, same_values};
+use super::checks::{is_true, returns, same_values};
 use crate::{reads, shared_values};
 use bitpack::list2::{PackedList, Reads};
 use bitpack::{ListError, ListKind};
@@ -23,7 +23,7 @@ fn ends(rt: &impl Abort, list: &PackedList<'_, BitPacker1x>, target: u32, expect
     }
     reads::search(list, target);
     let found = reads::ends_below(list, target, &mut Reads::new());
-    holds(rt, found == expected, "the end");
+    is_true(rt, found == expected, "the end");
 }
 
 /// What the two lists share.

@@ -9,7 +9,6 @@ use std::path::{Path, PathBuf};
 use bitpacking::column::{self, Kind};
 use bitpacking::set;
 
-use crate::best::{BLOCK, class_of};
 use crate::{MAGIC, Result, about};
 
 /// The longest run of letters and digits that is a word.
@@ -17,46 +16,29 @@ const LONGEST_WORD: usize = 64;
 /// The most bytes that are kept of the first line of a document.
 const LONGEST_LINE: usize = 100;
 
-/// The bytes of the file, and where its items begin.
-#[derive(Default)]
-struct Items {
-    bytes: Vec<u8>,
-    bounds: Vec<u32>,
+/// The class of a number keeps its four highest binary digits.
+fn class_of(number: u32) -> u8 {
+    let shift = (u32::BITS - number.leading_zeros()).saturating_sub(4);
+    (8 * shift + (number >> shift)) as u8
 }
 
-impl Items {
-    /// Writes the last bytes of an item.
-    fn end(&mut self, bytes: &[u8]) -> Result<()> {
-        self.bytes.extend(bytes);
-        self.bounds.push(u32::try_from(self.bytes.len()).map_err(|_| "there is more text than an index can have")?);
-        Ok(())
-    }
-
-    fn column(&mut self, kind: Kind, values: &[u32]) -> Result<()> {
-        column::pack_into(kind, values, &mut self.bytes)?;
-        self.end(&[])
-    }
-
-    /// Writes what the index has of a word: its documents, its counts, and the last document and the greatest count of each whole block.
-    fn word(&mut self, documents: &[u32], counts: &[u32]) -> Result<()> {
-        let lasts = documents.chunks_exact(BLOCK).map(|block| block[BLOCK - 1]);
-        let greatest = counts.chunks_exact(BLOCK).filter_map(|block| block.iter().copied().max());
-        set::pack_into(documents, &mut self.bytes)?;
-        self.end(&[])?;
-        self.column(Kind::Plain, counts)?;
-        self.column(Kind::Plain, &lasts.chain(greatest).collect::<Vec<_>>())
-    }
-}
-
-/// What was read: names of documents, the classes of their lengths, and for each word in which it is and how often.
+/// The bytes of the file and where its items begin, the classes of the lengths of documents, and for each word in which it is and how often.
 #[derive(Default)]
 struct Builder {
-    items: Items,
+    bytes: Vec<u8>,
+    bounds: Vec<u32>,
     classes: Vec<u8>,
     words: HashMap<Vec<u8>, (Vec<u32>, Vec<u32>)>,
 }
 
 impl Builder {
+    /// Writes the last bytes of an item.
+    fn end_item(&mut self, bytes: &[u8]) -> Result<()> {
+        self.bytes.extend(bytes);
+        self.bounds.push(u32::try_from(self.bytes.len()).map_err(|_| "there is more text than an index can have")?);
+        Ok(())
+    }
+
     /// Adds a document, which begins in a line of a file, if it has a word.
     fn add_document(&mut self, path: &Path, line: usize, text: &[u8]) -> Result<()> {
         let (document, mut length) = (self.classes.len() as u32, 0);
@@ -79,7 +61,7 @@ impl Builder {
         let first = text.split(|byte| b"\r\n".contains(byte)).next().unwrap_or_default();
         let ends = |at: &usize| text.get(*at).is_none_or(|byte| byte & 0xC0 != 0x80); // no character of UTF-8 is cut
         let kept = (0..=first.len().min(LONGEST_LINE)).rev().find(ends).unwrap_or(0);
-        self.items.end(&[path.as_os_str().as_bytes(), format!(":{line}  ").as_bytes(), &first[..kept]].concat())
+        self.end_item(&[path.as_os_str().as_bytes(), format!(":{line}  ").as_bytes(), &first[..kept]].concat())
     }
 
     /// Adds the documents of a text: of each paragraph one, or one of the whole.
@@ -117,20 +99,27 @@ impl Builder {
         Ok(())
     }
 
-    /// Adds the words in their order, the set and the columns of each, the classes of lengths, and where all these items begin.
-    fn add_words(&mut self) -> Result<()> {
-        let mut words: Vec<_> = self.words.iter().collect();
-        words.sort_unstable_by_key(|(word, _)| *word);
-        for (word, _) in &words {
-            self.items.end(&[word, &[0][..]].concat())?;
+    /// Adds the words in their order, each with the greatest class of its counts; of each the set and these classes; the classes of lengths; and
+    /// where all these items begin. Returns how many words there are.
+    fn add_words(&mut self) -> Result<usize> {
+        let mut words: Vec<_> = std::mem::take(&mut self.words).into_iter().collect();
+        words.sort_unstable_by(|(one, _), (other, _)| one.cmp(other));
+        for (word, (_, counts)) in &words {
+            let greatest = counts.iter().max().map_or(0, |&count| class_of(count));
+            self.end_item(&[word, &[0, greatest][..]].concat())?;
         }
         for (_, (documents, counts)) in &words {
-            self.items.word(documents, counts)?;
+            set::pack_into(documents, &mut self.bytes)?;
+            self.end_item(&[])?;
+            let classes: Vec<_> = counts.iter().map(|&count| class_of(count).into()).collect();
+            column::pack_into(Kind::Plain, &classes, &mut self.bytes)?;
+            self.end_item(&[])?;
         }
-        self.items.end(&self.classes)?;
-        let start = self.items.bytes.len() as u32;
-        column::pack_into(Kind::Sorted, &self.items.bounds, &mut self.items.bytes)?;
-        self.items.end(&start.to_le_bytes())
+        self.end_item(&self.classes.clone())?;
+        let start = self.bytes.len() as u32;
+        column::pack_into(Kind::Sorted, &self.bounds, &mut self.bytes)?;
+        self.end_item(&start.to_le_bytes())?;
+        Ok(words.len())
     }
 }
 
@@ -169,13 +158,13 @@ fn prepare(file: &Path) -> Result<()> {
 pub fn index(folder: &Path, file: &Path, paragraphs: bool) -> Result<(Vec<u8>, bool)> {
     prepare(file)?;
     let mut builder = Builder::default();
-    builder.items.end(MAGIC)?;
+    builder.end_item(MAGIC)?;
     builder.add_folder(folder, paragraphs)?;
-    builder.add_words()?;
+    let words = builder.add_words()?;
     let mut name = file.as_os_str().to_os_string();
     name.push(format!(".{}.tmp", std::process::id()));
     let written = File::create(&name).and_then(|mut out| {
-        out.write_all(&builder.items.bytes)?;
+        out.write_all(&builder.bytes)?;
         out.sync_all()?;
         fs::rename(&name, file)
     });
@@ -183,6 +172,6 @@ pub fn index(folder: &Path, file: &Path, paragraphs: bool) -> Result<(Vec<u8>, b
         let _ = fs::remove_file(&name);
         return Err(about(file, error).into());
     }
-    let (documents, words, size) = (builder.classes.len(), builder.words.len(), builder.items.bytes.len());
+    let (documents, size) = (builder.classes.len(), builder.bytes.len());
     Ok((format!("{documents} documents and {words} words in {size} bytes\n").into(), true))
 }

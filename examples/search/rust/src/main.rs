@@ -1,8 +1,7 @@
 //! A small search engine over id sets and columns. `../README.md` describes its queries and its file.
 //!
-//! This file has the command line. `index.rs` has `index`, `find.rs` has `find`, and `best.rs` ranks documents.
+//! This file has the command line, `index.rs` has `index`, and `find.rs` has `find`.
 
-mod best;
 mod find;
 mod index;
 
@@ -18,9 +17,9 @@ A small search engine over id sets and columns.
 
     search index [--paragraphs] FOLDER FILE
         writes an index of the text files below FOLDER to FILE; a document is a file, or a paragraph
-    search find [--best N] [--scan] [--count] [--explain] FILE QUERY
-        prints the 10 best documents that answer QUERY, or the N best up to 999, without reading all counts of its words,
-        or with reading all (--scan); or how many answer (--count); and which sets and how many counts it reads (--explain)
+    search find [--best N] [--count] [--explain] FILE QUERY
+        prints the 10 best documents that answer QUERY, or the N best up to 999; or how many answer (--count);
+        and which sets it reads, and the scores in full (--explain)
 
 A query has words next to each other (documents with all of them), a | b (with one of them), -c (without it),
 pre* (all words that begin so), and brackets: 'packed (list | block) -chain*'. All signs but letters and digits end a word.
@@ -29,13 +28,12 @@ The status is 0 if a document was found, 1 if none was, and 2 if something is wr
 ";
 
 /// An index file begins with this. It has a zero, which no text has.
-const MAGIC: &[u8; 8] = b"search3\0";
+const MAGIC: &[u8; 8] = b"search4\0";
 
 /// What the command line asks for.
 struct Options {
     paragraphs: bool,
     explain: bool,
-    scan: bool,
     /// How many documents are wanted, or 0 for their number.
     best: usize,
 }
@@ -56,12 +54,11 @@ fn run() -> Result<(Vec<u8>, bool)> {
     }
     let wrong = "arguments: search --help says what is wanted";
     let [command, options @ .., first, last] = &arguments[..] else { return Err(wrong.into()) };
-    let (mut given, mut options) = (options.iter(), Options { paragraphs: false, explain: false, scan: false, best: 10 });
+    let (mut given, mut options) = (options.iter(), Options { paragraphs: false, explain: false, best: 10 });
     while let Some(option) = given.next() {
         match option.to_str() {
             Some("--paragraphs") => options.paragraphs = true,
             Some("--count") => options.best = 0,
-            Some("--scan") => options.scan = true,
             Some("--explain") => options.explain = true,
             Some("--best") => {
                 options.best = given.next().and_then(|it| it.to_str()?.parse().ok()).filter(|&it| it < 1000).ok_or(wrong)?

@@ -43,7 +43,7 @@ fn shown_text() {
 
 #[test]
 fn errors_that_may_be_more() {
-    for name in ["SetError", "ColumnError", "QueryError"] {
+    for name in ["SetError", "ColumnError"] {
         let source = format!("#[derive(Clone, Copy)]\npub enum {name} {{\n    A,\n}}\n");
         becomes(&source, &source.replace("pub enum", "#[non_exhaustive]\npub enum"));
     }

@@ -84,6 +84,21 @@ fn an_index_in_an_index() {
 }
 
 #[test]
+fn integers_of_bytes() {
+    becomes("u16::from_le_bytes([a[0], a[1]])", "u16::from_le_bytes(*unsafe { a.proved_items(0) })");
+    becomes(
+        "u32::from_le_bytes([\n    a[b[i]],\n    a[b[i] + 1],\n    a[b[i] + 2],\n    a[b[i] + 3],\n])",
+        "u32::from_le_bytes(*unsafe { a.proved_items((*unsafe { b.proved_at(i) })) })",
+    );
+    // Other bytes.
+    is_as_it_was("u16::from_le_bytes([0, 1]) + u16::from_le_bytes(a)");
+    for [first, second] in [["a[1]", "a[0]"], ["a[0]", "b[1]"], ["a[i]", "a[i + 2]"], ["a[i]", "a[i]"], ["a[0]", "1"]] {
+        let made = body(&format!("u16::from_le_bytes([{first}, {second}])"));
+        assert!(made.contains(".proved_at(") && !made.contains("proved_items"), "{made}");
+    }
+}
+
+#[test]
 fn what_has_no_name_is_tested() {
     is_as_it_was("rows()[i] + a.rows()[j] + a?[i] + (a)[i] + (a).b[i];");
     is_as_it_was("two::<[u32; 4]>()[i] + self::a::ROWS[i] + super::ROWS[i];");
@@ -115,7 +130,7 @@ fn calls_in(path: &Path) -> usize {
         return std::fs::read_dir(path).unwrap().map(|it| calls_in(&it.unwrap().path())).sum();
     }
     let source = std::fs::read_to_string(path).unwrap_or_else(|it| panic!("{}: {it}", path.display()));
-    in_rust(&source, module("register"), false).unwrap().matches(".proved_at").count()
+    in_rust(&source, module("register"), false).unwrap().matches(".proved_").count()
 }
 
 #[test]

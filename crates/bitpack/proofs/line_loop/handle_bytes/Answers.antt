@@ -2,8 +2,8 @@
 use Rattle.std.proofs.Common.{◌≡◌, ℕ, ◌+◌, List, [], ◌∷◌, ◌++◌, Err, get_or, length, take, drop, sym, ap, subst, ◌∙◌, rules, append_assoc, append-nil, take_all, take-append-drop, ◌<◌}
 use Rattle.std.proofs.lemmas.List.{take_more, drop_more}
 use Rattle.bitpack.specs.declared.run_error.RunError.TheVariants.{Write}
-use Rattle.bitpack.specs.Lines.{AnsweredSoFar, StopsAmong, lines}
-use Rattle.bitpack.proofs.HeldBytes.{IfErr-at, IfErr-write, OnOk-both}
+use Rattle.bitpack.specs.Lines.{AnsweredSoFar, StopsWithin, lines}
+use Rattle.bitpack.proofs.BufferedBytes.{IfErr-at, IfErr-write, OnOk-both}
 use Rattle.bitpack.proofs.RunSteps.{stop, written_step}
 use Rattle.bitpack.proofs.line_loop.handle_bytes.Goals as goal
 
@@ -36,7 +36,7 @@ returns-in_err-handle_byte-clause-err g c = λ before input so_far.
     let is : c.from_residual.result ≡ Err e = search rules in
     let all = all_of input bytes i _ (search rules) (search rules) in
     let stopped = c.in_err-handle_byte.ensures.err before (input ++ take i bytes) (drop (i + 1) bytes) (c.loop-byte.invariant before input so_far) in
-    IfErr-at _ e (λ e. StopsAmong e before new (lines (input ++ bytes))) is (subst (λ l. StopsAmong e before new (lines l)) all stopped)
+    IfErr-at _ e (λ e. StopsWithin e before new (lines (input ++ bytes))) is (subst (λ l. StopsWithin e before new (lines l)) all stopped)
 
 pub returns-clause-ok : goal.returns-clause-ok
 returns-clause-ok g c = λ before input so_far.
@@ -52,9 +52,9 @@ pub returns-clause-err : goal.returns-clause-err
 returns-clause-err g c = λ before input so_far.
     let now = g.W.Write.contents c.loop-byte.writer in
     let new = g.W.Write.contents c.write_out.new.writer in
-    let held = c.loop-byte.output in
+    let buffered = c.loop-byte.output in
     let bytes = c.args.bytes.now in
     let all : (input ++ take c.loop-byte.byte-index bytes) ++ [] ≡ input ++ bytes = append-nil _ ∙ ap (λ l. input ++ l) (take_all _ _ (search rules)) in
-    IfErr-write c.write_out.result (λ e. StopsAmong e before new (lines (input ++ bytes))) _ c.write_out.ensures.err c.write_out.ensures.kind (λ part.
-    subst (λ l. StopsAmong Write before new (lines l)) all
-    (stop before now held (input ++ take c.loop-byte.byte-index bytes) c.loop-byte.line.items (c.loop-byte.invariant before input so_far) Write new [] part))
+    IfErr-write c.write_out.result (λ e. StopsWithin e before new (lines (input ++ bytes))) _ c.write_out.ensures.err c.write_out.ensures.kind (λ part.
+    subst (λ l. StopsWithin Write before new (lines l)) all
+    (stop before now buffered (input ++ take c.loop-byte.byte-index bytes) c.loop-byte.line.items (c.loop-byte.invariant before input so_far) Write new [] part))

@@ -5,7 +5,7 @@ use Rattle.bitpacking.proofs.ForCallers.{AreWords-from_slice}
 use Rattle.bitpack_columns.specs.Measured.{Follows}
 use Rattle.bitpack_columns.specs.Opened.{values}
 use Rattle.bitpack_columns.proofs.FallLaws.{found_column, right_column}
-use Rattle.bitpack_columns.proofs.KeptLaws.{opened_column}
+use Rattle.bitpack_columns.proofs.CopiedLaws.{opened_column}
 use Rattle.bitpack_columns.proofs.OpenedLaws.{count_is, few_values}
 use Rattle.bitpack_columns.proofs.appending.test_after.Goals as goal
 

@@ -14,7 +14,7 @@ returns-then-is_err c =
       fault = accepted c.args.kind c.args.values.now _ c.in_ok-plan.ensures.fault refl;
       room = λ none. omega (arith, full, long);
       unchanged = search rules;
-      kept = search rules;
+      capacity = search rules;
     }
 
 pub write_column-requires-clause-planned : goal.write_column-requires-clause-planned
@@ -38,5 +38,5 @@ returns c =
       fault = accepted c.args.kind c.args.values.now _ c.in_ok-plan.ensures.fault tt;
       room = search rules;
       unchanged = search rules;
-      kept = search rules;
+      capacity = search rules;
     }

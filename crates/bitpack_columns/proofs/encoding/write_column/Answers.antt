@@ -3,19 +3,19 @@ use Rattle.std.proofs.Common.{◌≡◌, ◌<◌, ℕ, List, length, ap, sym, �
 use Rattle.std.proofs.lemmas.List.{nil_from_length}
 use Rattle.bitpack_columns.specs.declared.column_kind.ColumnKind.{ColumnKind}
 use Rattle.bitpack_columns.proofs.EncodeLaws.{parts_are}
-use Rattle.bitpack_columns.proofs.WriteLaws.{are_blocks, no_blocks, text_long}
+use Rattle.bitpack_columns.proofs.WriteLaws.{are_blocks, encoding_long, no_blocks}
 use Rattle.bitpack_columns.proofs.encoding.write_column.Goals as goal
 
 pub split_at_mut-front-requires : goal.split_at_mut-front-requires
 split_at_mut-front-requires c =
-    let long = text_long c.args.kind c.args.values.now in
+    let long = encoding_long c.args.kind c.args.values.now in
     let all = c.requires.planned.len_is in
     let head = ap length c.requires.planned.header_is in
     omega arith
 
 pub overflow_sub-rest : goal.overflow_sub-rest
 overflow_sub-rest c =
-    let long = text_long c.args.kind c.args.values.now in
+    let long = encoding_long c.args.kind c.args.values.now in
     let all = c.requires.planned.len_is in
     let head = ap length c.requires.planned.header_is in
     let end = ap length c.requires.planned.tail_is in
@@ -24,7 +24,7 @@ overflow_sub-rest c =
 
 pub copy_from_slice-requires-2 : goal.copy_from_slice-requires-2
 copy_from_slice-requires-2 c =
-    let long = text_long c.args.kind c.args.values.now in
+    let long = encoding_long c.args.kind c.args.values.now in
     let all = c.requires.planned.len_is in
     let head = ap length c.requires.planned.header_is in
     let end = ap length c.requires.planned.tail_is in
@@ -34,7 +34,7 @@ copy_from_slice-requires-2 c =
 
 pub write_blocks-requires-clause-size : goal.write_blocks-requires-clause-size
 write_blocks-requires-clause-size c =
-    let long = text_long c.args.kind c.args.values.now in
+    let long = encoding_long c.args.kind c.args.values.now in
     let all = c.requires.planned.len_is in
     let head = ap length c.requires.planned.header_is in
     let end = ap length c.requires.planned.tail_is in
@@ -57,7 +57,7 @@ returns-else-values-ge-BLOCK_LEN c =
     let values : List ℕ = c.args.values.now in
     let few : length values < 128 = c.if-values-ge-BLOCK_LEN.false in
     let none = ap length (no_blocks kind values few) in
-    let long = text_long kind values in
+    let long = encoding_long kind values in
     let all = c.requires.planned.len_is in
     let head = ap length c.requires.planned.header_is in
     let end = ap length c.requires.planned.tail_is in

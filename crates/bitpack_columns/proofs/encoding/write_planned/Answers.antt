@@ -3,7 +3,7 @@ use Rattle.std.proofs.Common.{◌++◌, ℕ, List, drop, ap, ◌∙◌, arith, r
 use Rattle.std.proofs.lemmas.List.{length-take-le}
 use Rattle.bitpack_columns.proofs.EncodeLaws.{accepted}
 use Rattle.bitpack_columns.proofs.encoding.write_planned.Goals as goal
-use Rattle.bitpack_columns.specs.Columns.{text}
+use Rattle.bitpack_columns.specs.Columns.{encoding}
 
 pub returns-then-bytes-len : goal.returns-then-bytes-len
 returns-then-bytes-len c =
@@ -30,7 +30,7 @@ returns c =
     record {
       column = c.in_ok-plan.ensures.column;
       len = long;
-      ok = ap (λ (l : List ℕ). l ++ drop len old) c.write_column.ensures ∙ ap (λ n. text c.args.kind c.args.values.now ++ drop n old) long;
+      ok = ap (λ (l : List ℕ). l ++ drop len old) c.write_column.ensures ∙ ap (λ n. encoding c.args.kind c.args.values.now ++ drop n old) long;
       fault = accepted c.args.kind c.args.values.now _ c.in_ok-plan.ensures.fault tt;
       room = search rules;
       unchanged = search rules;

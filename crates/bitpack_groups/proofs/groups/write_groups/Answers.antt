@@ -69,7 +69,7 @@ loop-index-preserved c =
     let words : AreWords codes = AreWords-from_slice codes c.type_inv.codes in
     let long : length new ≡ length bytes - end = c.write_group-end.auto.bytes ∙ lent_after end bytes in
     let written : take (end + added) (put_mid end (length bytes - end) bytes new) ≡ take end bytes ++ part = take-put_end end added bytes new before.within long in
-    let kept : length (put_mid end (length bytes - end) bytes new) ≡ length bytes =
+    let unchanged : length (put_mid end (length bytes - end) bytes new) ≡ length bytes =
     length-written end (length bytes - end) bytes new before.within long (omega (arith, before.within)) in
     record {
       written = λ groups are.
@@ -82,8 +82,8 @@ loop-index-preserved c =
             ap (λ zs. zs ++ rest) (written ∙ ap (λ zs. take end bytes ++ zs) same) ∙ append_assoc (take end bytes) other rest
                 ∙ ap (λ zs. take end bytes ++ zs) (sym parts) ∙ items,
           );
-      within = omega (arith, kept, long, before.within, c.write_group-end.ensures.within);
-      long = kept ∙ before.long;
+      within = omega (arith, unchanged, long, before.within, c.write_group-end.ensures.within);
+      long = unchanged ∙ before.long;
     }
 
 -- After the last group, what is written is all of them.

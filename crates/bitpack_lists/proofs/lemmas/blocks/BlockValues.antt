@@ -18,6 +18,6 @@ module _ (lanes width : ℕ) (kind : Kind) (body : List ℕ) (small : start kind
   AreWords-block = (one_block kind (codes_of lanes width body) small AreWords-codes_of).0
 
   -- It holds no other.
-  pub values_of-held : (block : List ℕ) → AreWords block → Holds lanes width kind block body → block ≡ values_of kind (codes_of lanes width body)
-  values_of-held block are holds =
+  pub values_of-packed : (block : List ℕ) → AreWords block → Holds lanes width kind block body → block ≡ values_of kind (codes_of lanes width body)
+  values_of-packed block are holds =
       (one_block kind (codes_of lanes width body) small AreWords-codes_of).2 block are ((one_layout_codes lanes width body long).1 (codes kind block) holds)

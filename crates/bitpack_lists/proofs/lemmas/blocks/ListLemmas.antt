@@ -9,7 +9,7 @@ use Rattle.bitpack_lists.specs.Parts.{header, whole_blocks, first_kind}
 use Rattle.bitpack_lists.specs.Version1.{Blocks1, List1}
 use Rattle.bitpack_lists.proofs.lemmas.blocks.HeaderLemmas.{AreBytes-header, length-header}
 use Rattle.bitpack_lists.proofs.lemmas.blocks.PartLemmas.{AreBytes-append}
-use Rattle.bitpack_lists.proofs.lemmas.v1.OneText1.{blocks_of}
+use Rattle.bitpack_lists.proofs.lemmas.v1.OneEncoding1.{blocks_of}
 
 pub List1-from_blocks : (lanes : ℕ) (kind : ListKind) (values later : List ℕ) → AreWords values → length values ≤ 2 ^ 28
     → Blocks1 lanes (whole_blocks lanes (length values)) (first_kind kind) values later
@@ -24,10 +24,10 @@ List1-from_blocks lanes kind values later words few blocks =
     }
 
 -- What is after the header of values, and with the header is their encoded list.
-pub text_of : (lanes : ℕ) (kind : ListKind) (values : List ℕ) → 1 ≤ lanes → lanes < 2 ^ 8 → AreWords values → length values ≤ 2 ^ 28
+pub encoding_of : (lanes : ℕ) (kind : ListKind) (values : List ℕ) → 1 ≤ lanes → lanes < 2 ^ 8 → AreWords values → length values ≤ 2 ^ 28
     → (later : List ℕ) × AreBytes later × Blocks1 lanes (whole_blocks lanes (length values)) (first_kind kind) values later
     × AreBytes (header 1 kind lanes (length values) ++ later) × List1 lanes kind values (header 1 kind lanes (length values) ++ later)
-text_of lanes kind values some few words short =
+encoding_of lanes kind values some few words short =
     let count : ℕ = whole_blocks lanes (length values) in
     let (later, small, blocks) = blocks_of lanes count (first_kind kind) values some words (omega arith) in
     let front : List ℕ = header 1 kind lanes (length values) in (

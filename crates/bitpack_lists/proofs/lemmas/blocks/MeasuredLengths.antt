@@ -18,8 +18,8 @@ use Rattle.bitpack_lists.specs.Version1.{Blocks1, List1}
 use Rattle.bitpack_lists.specs.Version2.{kind_at, tail_start, width_at, widths_before}
 use Rattle.bitpack_lists.proofs.lemmas.blocks.BlockLemmas.{kind_at-next}
 use Rattle.bitpack_lists.proofs.lemmas.blocks.HeaderLemmas.{header_bytes}
-use Rattle.bitpack_lists.proofs.lemmas.v1.OneText1.{length-part}
-use Rattle.bitpack_lists.proofs.lemmas.blocks.WriteSteps.{kept_first}
+use Rattle.bitpack_lists.proofs.lemmas.v1.OneEncoding1.{length-part}
+use Rattle.bitpack_lists.proofs.lemmas.blocks.WriteSteps.{cached_first}
 
 -- ---- one block more is measured
 
@@ -32,7 +32,7 @@ pub measured_step : (lanes entry i width size_of : ℕ) (kind : Kind) (rest all 
     → Measured lanes entry i kind rest size_of all
     → Measured lanes entry (i + 1) (second_kind lanes kind rest) (drop (32 * lanes) rest) (size_of + (entry + size lanes width)) all
 measured_step lanes entry i width size_of kind rest all lt least before =
-    let first = kept_first lanes kind rest all i lt before.0 in
+    let first = cached_first lanes kind rest all i lt before.0 in
     let same : get_or all i 0 ≡ width = same_least_width (codes kind (take (32 * lanes) rest)) width (get_or all i 0) least first.0 in
     let parts : drop i all ≡ get_or all i 0 ∷ drop (i + 1) all = rw add-one (drop-cons all i 0 lt) in
     let total : sum (drop i all) ≡ width + sum (drop (i + 1) all) =
@@ -71,16 +71,16 @@ widths_of_blocks lanes (suc count) kind values bytes (part, rest, e, is, more) =
       ap length e ∙ length-append part rest ∙ omega (arith, long, total, later.3, mul-suc n count, length-drop n values),
     )
 
-pub length-text1 : (lanes size_of : ℕ) (kind : ListKind) (values text : List ℕ)
+pub length-encoding1 : (lanes size_of : ℕ) (kind : ListKind) (values encoding : List ℕ)
     → ((all : List ℕ) → length all ≡ whole_blocks lanes (length values) → LeastWidths lanes (first_kind kind) values all
     → size_of ≡ 7 + whole_blocks lanes (length values) + 4 * lanes * sum all + 4 * tail_values lanes (length values))
-    → List1 lanes kind values text → length text ≡ size_of
-length-text1 lanes size_of kind values text measured list =
+    → List1 lanes kind values encoding → length encoding ≡ size_of
+length-encoding1 lanes size_of kind values encoding measured list =
     let blocks : ℕ = whole_blocks lanes (length values) in
-    let widths = widths_of_blocks lanes blocks (first_kind kind) values (drop 7 text) list.blocks in
-    let found = header_bytes 1 lanes kind (length values) text list.begins in
+    let widths = widths_of_blocks lanes blocks (first_kind kind) values (drop 7 encoding) list.blocks in
+    let found = header_bytes 1 lanes kind (length values) encoding list.begins in
     let over : length values % (32 * lanes) ≡ length values - 32 * lanes * blocks = mod-eq-sub-mul-div (length values) (32 * lanes) in
-    omega (arith, measured widths.0 widths.1 widths.2, widths.3, found.long, length-drop 7 text, over)
+    omega (arith, measured widths.0 widths.1 widths.2, widths.3, found.long, length-drop 7 encoding, over)
 
 -- ---- version 2
 

@@ -18,7 +18,7 @@ use Rattle.bitpack_lists.specs.Parts.{is_loose}
 use Rattle.bitpack_lists.specs.Version1.{IsPart1, Blocks1, block_fault1, after_block1, blocks_fault1}
 use Rattle.bitpack_lists.proofs.lemmas.blocks.PartLemmas.{AreBytes-right, words_of}
 use Rattle.bitpack_lists.proofs.lemmas.blocks.LooseLemmas.{Decides-loose}
-use Rattle.bitpack_lists.proofs.lemmas.v1.OneText1.{narrow_least, same_front}
+use Rattle.bitpack_lists.proofs.lemmas.v1.OneEncoding1.{narrow_least, same_front}
 use Rattle.bitpack_lists.proofs.lemmas.blocks.FaultLemmas.{IsRight, right_from_none, tail_from_none, blocks_left, no_blocks_left, none_first, right, tail_right}
 
 -- ---- one block without a fault

@@ -60,11 +60,11 @@ length-tail lanes values some =
     let over : length values % n ≡ length values - n * (length values / n) = mod-eq-sub-mul-div (length values) n in
     omega (arith, length-bytes_of_words (drop (n * (length values / n)) values), length-drop (n * (length values / n)) values, over)
 
-pub length-text2 : (lanes : ℕ) (kind : ListKind) (values text : List ℕ) → 1 ≤ lanes → List2 lanes kind values text
-    → length text ≡ 7 + tail_start lanes (whole_blocks lanes (length values)) (drop 7 text) + 4 * tail_values lanes (length values)
-length-text2 lanes kind values text some list =
+pub length-encoding2 : (lanes : ℕ) (kind : ListKind) (values encoding : List ℕ) → 1 ≤ lanes → List2 lanes kind values encoding
+    → length encoding ≡ 7 + tail_start lanes (whole_blocks lanes (length values)) (drop 7 encoding) + 4 * tail_values lanes (length values)
+length-encoding2 lanes kind values encoding some list =
     let blocks : ℕ = whole_blocks lanes (length values) in
-    let start : ℕ = tail_start lanes blocks (drop 7 text) in
-    let found = header_bytes 2 lanes kind (length values) text list.begins in
-    let tail : length (drop start (drop 7 text)) ≡ 4 * tail_values lanes (length values) = ap length list.rest.tail ∙ length-tail lanes values some in
-    omega (arith, tail, list.rest.whole.room, length-drop start (drop 7 text), length-drop 7 text, found.long)
+    let start : ℕ = tail_start lanes blocks (drop 7 encoding) in
+    let found = header_bytes 2 lanes kind (length values) encoding list.begins in
+    let tail : length (drop start (drop 7 encoding)) ≡ 4 * tail_values lanes (length values) = ap length list.rest.tail ∙ length-tail lanes values some in
+    omega (arith, tail, list.rest.whole.room, length-drop start (drop 7 encoding), length-drop 7 encoding, found.long)

@@ -176,17 +176,17 @@ module _ (value : ℕ → ℕ) (target : ℕ) where
         rw (found.2, least_below-further (reaches value target) bound greater found.0 le found.2) refl
 
 -- Values that agree have the same first.
-abbrev placed : (ℕ → ℕ) → ℕ → ℕ × ℕ
-placed value position = (position, value position)
+abbrev with_value : (ℕ → ℕ) → ℕ → ℕ × ℕ
+with_value value position = (position, value position)
 
 pub first_same : (value other : ℕ → ℕ) (count target : ℕ) → ((k : ℕ) → k < count → value k ≡ other k)
     → first_reaching value count target ≡ first_reaching other count target
 first_same value other count target each =
-    ap (option_map (placed value)) tests ∙ either (least_below (reaches other target) count) (least_below-lt (reaches other target) count)
+    ap (option_map (with_value value)) tests ∙ either (least_below (reaches other target) count) (least_below-lt (reaches other target) count)
   where
     tests : least_below (reaches value target) count ≡ least_below (reaches other target) count
     tests = least_below-same (reaches value target) (reaches other target) count (λ k lt. ap (leb target) (each k lt))
 
-    either : (found : Option ℕ) → ((x : ℕ) → found ≡ Some x → x < count) → option_map (placed value) found ≡ option_map (placed other) found
+    either : (found : Option ℕ) → ((x : ℕ) → found ≡ Some x → x < count) → option_map (with_value value) found ≡ option_map (with_value other) found
     either None less = refl
     either (Some found) less = ap (λ v. Some (found, v)) (each found (less found refl))

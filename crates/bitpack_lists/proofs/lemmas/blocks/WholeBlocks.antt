@@ -11,13 +11,13 @@ use Rattle.bitpack_lists.specs.declared.list_kind.ListKind.{ListKind}
 use Rattle.bitpack_lists.specs.Parts.{tail_values, whole_blocks}
 use Rattle.bitpack_lists.specs.Version2.{HasBlocks, block_at, block_of, body_at, blocks_fault, body_fault2, entry_fault2, first_fault, first_out, is_out, kind_at, last_at, least_below, order_fault, tail_start, value_with, width_at}
 use Rattle.bitpack_lists.proofs.lemmas.blocks.BlockLemmas.{AreWords-block_of}
-use Rattle.bitpack_lists.proofs.lemmas.blocks.BlockValues.{values_of-held}
+use Rattle.bitpack_lists.proofs.lemmas.blocks.BlockValues.{values_of-packed}
 use Rattle.bitpack_lists.proofs.lemmas.blocks.FaultLemmas.{none_first}
 use Rattle.bitpack_lists.proofs.lemmas.blocks.HeaderLemmas.{passed}
 use Rattle.bitpack_lists.proofs.lemmas.blocks.PartValues.{AreWords-values_in_parts, block_of-values_in_parts, length-values_in_parts, ordered_in_parts, tail_of-values_in_parts, value_is_given, values_in_parts}
 pub use Rattle.bitpack_lists.proofs.lemmas.blocks.PartValues.{ordered_is}
 use Rattle.bitpack_lists.proofs.lemmas.blocks.ReadSteps.{least_from_tight, tight_from_least}
-use Rattle.bitpack_lists.proofs.lemmas.v1.OneText1.{narrow_least}
+use Rattle.bitpack_lists.proofs.lemmas.v1.OneEncoding1.{narrow_least}
 use Rattle.bitpack_lists.proofs.lemmas.blocks.RestFaults.{body_right, first_fault-all, first_fault-none, right_body, right_entry}
 use Rattle.bitpack_lists.proofs.lemmas.blocks.RestValues.{AreWords-block_at, Holds-block_at, length-block_at, offset_entry, start-kind_at}
 
@@ -81,8 +81,8 @@ module _ (lanes count : ℕ) (kind : ListKind) (rest : List ℕ) (tail : ℕ →
   block_is : (m : ℕ) → m < blocks → block_of lanes values_with m ≡ block m
   block_is = block_of-values_in_parts lanes count block tail some length-block
 
-  pub blocks_held : HasBlocks lanes blocks kind values_with rest
-  blocks_held = record {
+  pub blocks_packed : HasBlocks lanes blocks kind values_with rest
+  blocks_packed = record {
     entries = λ m lt.
         let none = first_fault-none (body_fault2 lanes blocks kind rest) blocks sound.bodies m lt in
         let right = body_right lanes (kind_at kind rest m) m (width_at rest m) (last_at rest m) (body_at lanes blocks rest m) none in
@@ -97,9 +97,9 @@ module _ (lanes count : ℕ) (kind : ListKind) (rest : List ℕ) (tail : ℕ →
   }
 
   -- The values after the blocks are those of the tail.
-  pub tail_held : (later : List ℕ) → length later ≡ tail_values lanes count → ((k : ℕ) → k < length later → get_or later k 0 ≡ tail k)
+  pub tail_packed : (later : List ℕ) → length later ≡ tail_values lanes count → ((k : ℕ) → k < length later → get_or later k 0 ≡ tail k)
       → drop (32 * lanes * blocks) values_with ≡ later
-  tail_held = tail_of-values_in_parts lanes count block tail some length-block
+  tail_packed = tail_of-values_in_parts lanes count block tail some length-block
 
   pub ordered_with : least_below (is_out kind (value_with lanes blocks kind rest tail)) count ≡ None → first_out kind values_with ≡ None
   ordered_with = ordered_in_parts lanes count block tail some length-block kind
@@ -119,14 +119,14 @@ module _ (lanes : ℕ) (kind : ListKind) (values rest : List ℕ) (some : 1 ≤ 
   pub block_given : (block : ℕ) → block < blocks_of → block_of lanes values block ≡ block_at lanes blocks_of kind rest block
   block_given block lt =
       let holds = has.bodies block lt in
-      values_of-held lanes (width_at rest block) (kind_at kind rest block) (body_at lanes blocks_of rest block)
+      values_of-packed lanes (width_at rest block) (kind_at kind rest block) (body_at lanes blocks_of rest block)
       (start-kind_at kind rest block small) (narrow_block block lt) holds.byte_count (block_of lanes values block)
       (AreWords-block_of lanes block values words) holds
 
   -- The value at each position is the one that the bytes encode, if so are the values of the tail.
-  pub value_held : (tail : ℕ → ℕ) → ((k : ℕ) → k < length (drop (32 * lanes * blocks_of) values) → get_or (drop (32 * lanes * blocks_of) values) k 0 ≡ tail k)
+  pub value_packed : (tail : ℕ → ℕ) → ((k : ℕ) → k < length (drop (32 * lanes * blocks_of) values) → get_or (drop (32 * lanes * blocks_of) values) k 0 ≡ tail k)
       → (p : ℕ) → p < length values → get_or values p 0 ≡ value_with lanes blocks_of kind rest tail p
-  value_held tail = value_is_given lanes values (block_at lanes blocks_of kind rest) tail some block_given
+  value_packed tail = value_is_given lanes values (block_at lanes blocks_of kind rest) tail some block_given
 
   pub sound_from_blocks : AreSound lanes blocks_of kind rest
   sound_from_blocks = record {

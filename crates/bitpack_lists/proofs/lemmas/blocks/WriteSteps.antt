@@ -15,7 +15,7 @@ use Rattle.bitpacking.specs.Words.{bytes_of_words}
 use Rattle.bitpack_lists.specs.Version1.{IsPart1, Blocks1}
 use Rattle.bitpacking.proofs.ForCallers.{length-bytes_of_words}
 use Rattle.bitpack_lists.proofs.lemmas.blocks.PartLemmas.{AreBytes-left, AreBytes-right}
-use Rattle.bitpack_lists.proofs.lemmas.v1.OneText1.{length-part, same_part}
+use Rattle.bitpack_lists.proofs.lemmas.v1.OneEncoding1.{length-part, same_part}
 
 -- ---- the values that are left
 
@@ -40,44 +40,44 @@ one-less blocks i lt = omega arith
 -- ---- the cached widths
 
 -- The widths so far, with the least widths of blocks after them, are least widths.
-abbrev pub Kept : ℕ → Kind → Kind → List ℕ → List ℕ → List ℕ → Type 0
-Kept lanes first kind values rest widths = (later : List ℕ) → LeastWidths lanes kind rest later → LeastWidths lanes first values (widths ++ later)
+abbrev pub CachedWidths : ℕ → Kind → Kind → List ℕ → List ℕ → List ℕ → Type 0
+CachedWidths lanes first kind values rest widths = (later : List ℕ) → LeastWidths lanes kind rest later → LeastWidths lanes first values (widths ++ later)
 
-pub kept_step : (lanes : ℕ) (first kind : Kind) (values rest widths : List ℕ) (width : ℕ) → IsWidth kind (take (32 * lanes) rest) width
-    → Kept lanes first kind values rest widths
-    → Kept lanes first (second_kind lanes kind rest) values (drop (32 * lanes) rest) (widths ++ width ∷ [])
-kept_step lanes first kind values rest widths width least before =
+pub cached_step : (lanes : ℕ) (first kind : Kind) (values rest widths : List ℕ) (width : ℕ) → IsWidth kind (take (32 * lanes) rest) width
+    → CachedWidths lanes first kind values rest widths
+    → CachedWidths lanes first (second_kind lanes kind rest) values (drop (32 * lanes) rest) (widths ++ width ∷ [])
+cached_step lanes first kind values rest widths width least before =
     λ later more. rw (append_assoc widths (width ∷ []) later) (before (width ∷ later) (least, more))
 
-pub kept_done : (lanes : ℕ) (first kind : Kind) (values rest widths : List ℕ) → Kept lanes first kind values rest widths
+pub cached_done : (lanes : ℕ) (first kind : Kind) (values rest widths : List ℕ) → CachedWidths lanes first kind values rest widths
     → LeastWidths lanes first values widths
-kept_done lanes first kind values rest widths before = rw (append-nil widths) at (before [] tt)
+cached_done lanes first kind values rest widths before = rw (append-nil widths) at (before [] tt)
 
 -- Cached or not, the widths of one block more are least widths.
 pub least_step : (lanes : ℕ) (first kind : Kind) (values rest old new : List ℕ) (i width : ℕ) → IsWidth kind (take (32 * lanes) rest) width
     → (i < length old → take (i + 1) new ≡ take i old ++ width ∷ []) → (length old ≤ i → new ≡ old)
-    → (i ≤ length old → Kept lanes first kind values rest (take i old)) → LeastWidths lanes first values (take i old)
+    → (i ≤ length old → CachedWidths lanes first kind values rest (take i old)) → LeastWidths lanes first values (take i old)
     → LeastWidths lanes first values (take (i + 1) new)
-least_step lanes first kind values rest old new i width least kept past before so_far =
+least_step lanes first kind values rest old new i width least cached past before so_far =
     elim (cases_lt i (length old)) [
-      | inl lt ↦ rw (kept lt) (kept_done lanes first (second_kind lanes kind rest) values (drop (32 * lanes) rest) (take i old ++ width ∷ [])
-          (kept_step lanes first kind values rest (take i old) width least (before (omega arith))))
+      | inl lt ↦ rw (cached lt) (cached_done lanes first (second_kind lanes kind rest) values (drop (32 * lanes) rest) (take i old ++ width ∷ [])
+          (cached_step lanes first kind values rest (take i old) width least (before (omega arith))))
       | inr le ↦ rw (past le, take_all (i + 1) old (omega arith), ← take_all i old le) so_far
     ]
 
 -- A cached width, and those after it.
-pub kept_first : (lanes : ℕ) (kind : Kind) (rest widths : List ℕ) (i : ℕ) → i < length widths → LeastWidths lanes kind rest (drop i widths)
+pub cached_first : (lanes : ℕ) (kind : Kind) (rest widths : List ℕ) (i : ℕ) → i < length widths → LeastWidths lanes kind rest (drop i widths)
     → IsWidth kind (take (32 * lanes) rest) (get_or widths i 0)
     × LeastWidths lanes (second_kind lanes kind rest) (drop (32 * lanes) rest) (drop (i + 1) widths)
-kept_first lanes kind rest widths i lt least =
+cached_first lanes kind rest widths i lt least =
     let parts : drop i widths ≡ get_or widths i 0 ∷ drop (i + 1) widths = rw add-one (drop-cons widths i 0 lt) in
     rw parts at least
 
-pub kept_rest : (lanes : ℕ) (kind : Kind) (rest widths : List ℕ) (i : ℕ) → LeastWidths lanes kind rest (drop i widths)
+pub cached_rest : (lanes : ℕ) (kind : Kind) (rest widths : List ℕ) (i : ℕ) → LeastWidths lanes kind rest (drop i widths)
     → LeastWidths lanes (second_kind lanes kind rest) (drop (32 * lanes) rest) (drop (i + 1) widths)
-kept_rest lanes kind rest widths i least =
+cached_rest lanes kind rest widths i least =
     elim (cases_lt i (length widths)) [
-      | inl lt ↦ (kept_first lanes kind rest widths i lt least).1
+      | inl lt ↦ (cached_first lanes kind rest widths i lt least).1
       | inr le ↦ rw (drop_all (i + 1) widths (omega arith)) tt
     ]
 

@@ -59,8 +59,8 @@ module _ (lanes : ℕ) (kind : ListKind) (values : List ℕ) (some : 1 ≤ lanes
       (has.entries i lt).least.fits in
       (rest ++ body, AreBytes-append rest body small are, rw add-one at (bodies_step lanes blocks kind values rest body i lt has layout))
 
-  pub text_of2 : lanes < 2 ^ 8 → first_out kind values ≡ None → (text : List ℕ) × AreBytes text × List2 lanes kind values text
-  text_of2 small ordered =
+  pub encoding_of2 : lanes < 2 ^ 8 → first_out kind values ≡ None → (encoding : List ℕ) × AreBytes encoding × List2 lanes kind values encoding
+  encoding_of2 small ordered =
       let (rest, are, has) = bodies_upto blocks (omega arith) in
       let tail : List ℕ = bytes_of_words (drop (32 * lanes * blocks) values) in
       let front : List ℕ = header 2 kind lanes (length values) in (

@@ -1,5 +1,5 @@
 -- The worked lists, by computing.
--- Serves worked_texts.
+-- Serves worked_encodings.
 use Rattle.std.proofs.Common.{◌≡◌, [], ◌∷◌, ◌++◌, ◌+◌, ◌*◌, ◌%◌, ◌^◌, ◌≤◌, ℕ, false, true, List, length, refl}
 use Rattle.std.specs.List.{list_all}
 use Rattle.std.specs.Prelude.{nat_lt}
@@ -12,7 +12,7 @@ use Rattle.bitpacking.proofs.ForCallers.{one_layout_codes}
 use Rattle.bitpack_lists.specs.Parts.{header, header_fault, is_loose, value_in_parts}
 use Rattle.bitpack_lists.specs.Version1.{IsPart1, block_fault1, blocks_fault1, body_fault1, fault1}
 use Rattle.bitpack_lists.specs.Version2.{block_fault2, entry_fault2, fault2, first_fault, least_below, rest_fault2}
-use Rattle.bitpack_lists.specs.WorkedTexts.{WorkedFaults1, WorkedFaults2, WorkedTexts1, WorkedTexts2, listed}
+use Rattle.bitpack_lists.specs.WorkedEncodings.{WorkedEncodings1, WorkedEncodings2, WorkedFaults1, WorkedFaults2, listed}
 use Rattle.bitpack_lists.proofs.lemmas.blocks.LooseLemmas.{Decides-fits, Decides-loose}
 
 words-from_test : (values : List ℕ) → list_all (λ value. nat_lt value (2 ^ 32)) values ≡ true → AreWords values
@@ -34,9 +34,9 @@ part-from_bytes width kind block body long same tight =
       parts = refl;
     }
 
-pub worked_texts1 : WorkedTexts1
+pub worked_encodings1 : WorkedEncodings1
 unfolding header codes_of place joined is_loose
-worked_texts1 =
+worked_encodings1 =
     let begins : (n : ℕ) → nat_lt (2 ^ 28) n ≡ false → n ≤ 2 ^ 28 = λ n test. ltb-false (2 ^ 28) n test in
     let ones : List ℕ = 0xFF ∷ 0xFF ∷ 0xFF ∷ 0xFF ∷ [] in
     let twos : List ℕ = 0xAA ∷ 0xAA ∷ 0xAA ∷ 0xAA ∷ 0xAA ∷ 0xAA ∷ 0xAA ∷ 0xAA ∷ [] in
@@ -65,9 +65,9 @@ worked_texts1 =
       },
     )
 
-pub worked_texts2 : WorkedTexts2
+pub worked_encodings2 : WorkedEncodings2
 unfolding fault2 header_fault rest_fault2 first_fault entry_fault2 block_fault2 is_loose word value_in_parts codes_of place joined least_below
-worked_texts2 = ((refl, refl, refl), (refl, refl, refl), (refl, refl, refl), (refl, refl, refl))
+worked_encodings2 = ((refl, refl, refl), (refl, refl, refl), (refl, refl, refl), (refl, refl, refl))
 
 pub worked_faults1 : WorkedFaults1
 unfolding fault1 header_fault body_fault1 blocks_fault1 block_fault1 is_loose word codes_of place joined

@@ -1,4 +1,4 @@
--- A search that halves the blocks that are left, whatever a mark says: what is known between two marks.
+-- A search that halves the blocks that are left, whatever a skip key says: what is known between two skip keys.
 -- Serves opened.
 use Rattle.std.proofs.Common.{◌≡◌, ℕ, zero, suc, ◌+◌, ◌-◌, ◌/◌, ◌^◌, ◌<◌, ◌≤◌, ◌⊎◌, refl, sym, arith, inl, inr}
 use Rattle.std.proofs.lemmas.Bool.{cases_lt}
@@ -6,7 +6,7 @@ use Rattle.bitpacking.specs.declared.bit_packer.BitPacker.{Ghosts}
 use Rattle.bitpack_lists.specs.declared.opened.PackedList.{PackedList}
 use Rattle.bitpack_lists.specs.Chains.{next_kind}
 use Rattle.bitpack_lists.specs.Parts.{first_kind}
-use Rattle.bitpack_lists.specs.inner.Searching.{EndsBelow, blocks_of, kind_of_list, mark_of_list}
+use Rattle.bitpack_lists.specs.inner.Searching.{EndsBelow, blocks_of, kind_of_list, skip_key_of_list}
 use Rattle.bitpack_lists.proofs.lemmas.blocks.BlockLemmas.{kind_after-next}
 
 -- Half of what is left has a digit less.
@@ -16,24 +16,24 @@ digits_less left zero entries most some span few = absurd (omega arith)
 digits_less left (suc less) entries most some span few = (less, omega arith, omega arith)
 
 module _ {P : Type 0} {members : Ghosts P} (list : PackedList P members) (target : ℕ) where
-  abbrev mark : ℕ → ℕ
-  mark = mark_of_list list
+  abbrev skip_key : ℕ → ℕ
+  skip_key = skip_key_of_list list
 
-  -- the blocks before one have marks below the target, and the mark before it is known; or it has one itself, and is read again
+  -- the blocks before one have skip keys below the target, and the skip key before it is known; or it has one itself, and is read again
   abbrev pub Passed : ℕ → ℕ → ℕ → Type 0
   Passed low left before =
       (EndsBelow list target low × (0 < low → kind_of_list list low ≡ next_kind (first_kind list.kind) before))
-      ⊎ ((0 < left) × (mark low < target))
+      ⊎ ((0 < left) × (skip_key low < target))
 
   -- the first block that reaches the target is one of those that are left, or the one after them, if there is one
   pub record IsHalved (low left before : ℕ) : Type 0 where
     pub within : low + left ≤ blocks_of list
-    pub enough : low + left < blocks_of list → target ≤ mark (low + left)
+    pub enough : low + left < blocks_of list → target ≤ skip_key (low + left)
     pub passed : Passed low left before
 
   module _ (low left before : ℕ) (is : IsHalved low left before) where
-    -- A mark below the target leaves those after it, and itself if the number is even.
-    pub halved_below : 0 < left → mark (low + left / 2) < target → IsHalved (low + (left - left / 2)) (left / 2) (mark (low + left / 2))
+    -- A skip key below the target leaves those after it, and itself if the number is even.
+    pub halved_below : 0 < left → skip_key (low + left / 2) < target → IsHalved (low + (left - left / 2)) (left / 2) (skip_key (low + left / 2))
     halved_below some below =
         let same : low + (left - left / 2) + left / 2 ≡ low + left = omega arith in
         record {
@@ -44,7 +44,7 @@ module _ {P : Type 0} {members : Ghosts P} (list : PackedList P members) (target
                 let next : low + (left - left / 2) ≡ low + left / 2 + 1 = omega (arith, odd) in
                 rw next (inl (
                   λ block e. let here : block ≡ low + left / 2 = omega (arith, e) in rw here below,
-                  λ _. sym (kind_after-next list.kind mark (low + left / 2) (mark (low + left / 2)) refl),
+                  λ _. sym (kind_after-next list.kind skip_key (low + left / 2) (skip_key (low + left / 2)) refl),
                 ))
             | inr even ↦
                 let here : low + (left - left / 2) ≡ low + left / 2 = omega (arith, even) in
@@ -53,7 +53,7 @@ module _ {P : Type 0} {members : Ghosts P} (list : PackedList P members) (target
         }
 
     -- One that reaches it leaves those before it.
-    pub halved_reaching : 0 < left → target ≤ mark (low + left / 2) → IsHalved low (left / 2) before
+    pub halved_reaching : 0 < left → target ≤ skip_key (low + left / 2) → IsHalved low (left / 2) before
     halved_reaching some enough = record {
       within = omega (arith, is.within);
       enough = λ _. enough;
@@ -63,7 +63,7 @@ module _ {P : Type 0} {members : Ghosts P} (list : PackedList P members) (target
           | inl more ↦ inr (more, again.1)
           | inr last ↦
               let here : low + left / 2 ≡ low = omega (arith, last) in
-              let reached : target ≤ mark low = rw here at enough in
+              let reached : target ≤ skip_key low = rw here at enough in
               absurd (omega (arith, reached, again.1))
         ]
       ];

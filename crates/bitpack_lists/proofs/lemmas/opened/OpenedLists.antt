@@ -11,12 +11,12 @@ use Rattle.bitpack_lists.specs.declared.opened.PackedList.{PackedList}
 use Rattle.bitpack_lists.specs.declared.list_kind.ListKind.TheVariants as lists
 use Rattle.bitpack_lists.specs.Parts.{tail_values, whole_blocks}
 use Rattle.bitpack_lists.specs.Search.{first_reaching, in_whole_block}
-use Rattle.bitpack_lists.specs.inner.Searching.{block_of_list, blocks_of, mark_of_list, rest_of, value_of}
+use Rattle.bitpack_lists.specs.inner.Searching.{block_of_list, blocks_of, rest_of, skip_key_of_list, value_of}
 use Rattle.bitpack_lists.specs.Version2.{is_out, least_below, tail_start}
 use Rattle.bitpack_lists.proofs.lemmas.blocks.PartValues.{value_in_parts-block, value_in_parts-tail}
 use Rattle.bitpack_lists.proofs.lemmas.blocks.SearchLemmas.{before_block, first_further, first_within, in_order}
 use Rattle.bitpack_lists.proofs.lemmas.blocks.WholeBlocks.{AreSound}
-use Rattle.bitpack_lists.proofs.lemmas.opened.TextBlocks.{IsRead, read_of, sound_of, words_of_tail}
+use Rattle.bitpack_lists.proofs.lemmas.opened.EncodingBlocks.{IsRead, read_of, sound_of, words_of_tail}
 
 -- No list has the block of the number that stands for none.
 pub few_blocks : (lanes count : ℕ) → 1 ≤ lanes → count ≤ 2 ^ 28 → whole_blocks lanes count ≤ 2 ^ 28
@@ -61,9 +61,9 @@ module _ {P : Type 0} {members : Ghosts P} (list : PackedList P members) (some :
       let here : p ≡ n * (p / n) + p % n = sym (div-add-mod p n) in
       rw whole (ap (value_of list) here ∙ opened_at (p / n) (p % n) (rw whole at lt) (omega arith))
 
-  -- The last value of a block is its mark.
+  -- The last value of a block is its skip key.
   pub opened_last : (block : ℕ) → block < blocks
-      → value_of list (32 * lanes * block + (32 * lanes - 1)) ≡ mark_of_list list block
+      → value_of list (32 * lanes * block + (32 * lanes - 1)) ≡ skip_key_of_list list block
   opened_last block lt = opened_at block (32 * lanes - 1) lt (omega arith) ∙ read.ends block lt
 
   pub opened_length : (block : ℕ) → block < blocks → length (block_of_list list block) ≡ 32 * lanes
@@ -71,7 +71,7 @@ module _ {P : Type 0} {members : Ghosts P} (list : PackedList P members) (some :
 
   -- Of a list that is not plain the values are in order.
   module _ (ordered : list.kind ≢ lists.Plain) (target block : ℕ)
-      (ends : (before : ℕ) → suc before ≡ block → mark_of_list list before < target) where
+      (ends : (before : ℕ) → suc before ≡ block → skip_key_of_list list before < target) where
     abbrev n : ℕ
     n = 32 * lanes
 
@@ -85,7 +85,7 @@ module _ {P : Type 0} {members : Ghosts P} (list : PackedList P members) (some :
         (omega (arith, mul-le n block n blocks (omega arith) le, div-add-mod list.count n))
         (λ before e. rw (opened_last before (omega arith)) (ends before e))
 
-    module _ (lt : block < blocks) (enough : target ≤ mark_of_list list block) where
+    module _ (lt : block < blocks) (enough : target ≤ skip_key_of_list list block) where
       block_room : n * block + n ≤ n * blocks
       block_room = omega (arith, mul-le n (block + 1) n blocks (omega arith) (omega arith))
 

@@ -5,16 +5,16 @@ use Rattle.bitpacking.specs.Bits.{AreBytes}
 use Rattle.bitpacking.specs.declared.bit_packer.BitPacker.{Ghosts}
 use Rattle.bitpack_lists.specs.declared.opened.PackedList.{PackedList}
 use Rattle.bitpack_lists.specs.declared.list_kind.ListKind.{ListKind}
-use Rattle.bitpack_lists.specs.Opened.{first_of, kind_of, text, values}
+use Rattle.bitpack_lists.specs.Opened.{encoding, first_of, kind_of, values}
 use Rattle.bitpack_lists.specs.Parts.{count_of, kind_of_byte, whole_blocks}
 use Rattle.bitpack_lists.specs.Search.{first_at_least, first_reaching}
-use Rattle.bitpack_lists.specs.Texts.{IsTextOfNoOther, States}
+use Rattle.bitpack_lists.specs.Encodings.{EncodesNoOther, States}
 use Rattle.bitpack_lists.specs.Version2.{List2, fault2, value_at}
 use Rattle.bitpack_lists.specs.inner.Searching.{value_of}
 use Rattle.bitpack_lists.specs.inner.Walks.{values_in}
 use Rattle.bitpack_lists.proofs.lemmas.opened.Positions.{first_of-same, get_or-first_of, length-first_of}
 use Rattle.bitpack_lists.proofs.lemmas.blocks.HeaderLemmas.{header_bytes}
-use Rattle.bitpack_lists.proofs.lemmas.v2.OneText2.{no_fault2}
+use Rattle.bitpack_lists.proofs.lemmas.v2.OneEncoding2.{no_fault2}
 use Rattle.bitpack_lists.proofs.lemmas.blocks.SearchLemmas.{first_same}
 use Rattle.bitpack_lists.proofs.lemmas.v2.Soundness2.{kind_of_byte-is, value_given}
 use Rattle.bitpack_lists.proofs.lemmas.opened.Sharing.{AreValues}
@@ -40,7 +40,7 @@ stated_values : ℕ → List ℕ → List ℕ
 stated_values lanes bytes = first_of (value_at lanes (whole_blocks lanes (count_of bytes)) (kind_of_byte (get_or bytes 1 0)) (drop 7 bytes)) (count_of bytes)
 
 given_only : (lanes : ℕ) (bytes : List ℕ) → 1 ≤ lanes → AreBytes bytes
-    → IsTextOfNoOther lanes (kind_of_byte (get_or bytes 1 0)) (stated_values lanes bytes) bytes
+    → EncodesNoOther lanes (kind_of_byte (get_or bytes 1 0)) (stated_values lanes bytes) bytes
 unfolding stated_values
 given_only lanes bytes some small kind others is =
     let found = header_bytes 2 lanes kind (length others) bytes is.begins in
@@ -61,7 +61,7 @@ given_list lanes bytes some small none =
 given_of : (lanes : ℕ) (bytes : List ℕ) (kind : ListKind) (count : ℕ) (rest : List ℕ) → 1 ≤ lanes → AreBytes bytes
     → States lanes bytes kind count rest
     → List2 lanes kind (first_of (value_at lanes (whole_blocks lanes count) kind rest) count) bytes
-    × IsTextOfNoOther lanes kind (first_of (value_at lanes (whole_blocks lanes count) kind rest) count) bytes
+    × EncodesNoOther lanes kind (first_of (value_at lanes (whole_blocks lanes count) kind rest) count) bytes
 unfolding stated_values
 given_of lanes bytes kind count rest some small states =
     rw (states.count_is, states.kind_is, states.rest_is) (given_list lanes bytes some small states.none, given_only lanes bytes some small)
@@ -70,15 +70,15 @@ given_of lanes bytes kind count rest some small states =
 
 module _ {P : Type 0} {members : Ghosts P} (list : PackedList P members) (some : 1 ≤ members.lanes) where
   -- these are the kind and the values of its bytes
-  pub opened_list2 : List2 members.lanes (kind_of list) (values list) (text list)
+  pub opened_list2 : List2 members.lanes (kind_of list) (values list) (encoding list)
   opened_list2 = (given_of members.lanes list.bytes.now list.kind list.count list.rest.now some list.are_bytes list.states).0
 
-  pub opened_only2 : IsTextOfNoOther members.lanes (kind_of list) (values list) (text list)
+  pub opened_only2 : EncodesNoOther members.lanes (kind_of list) (values list) (encoding list)
   opened_only2 = (given_of members.lanes list.bytes.now list.kind list.count list.rest.now some list.are_bytes list.states).1
 
   -- the kind and the values of each list whose bytes were opened are those of the opened list
-  pub kind_is : (kind : ListKind) (others : List ℕ) → List2 members.lanes kind others (text list) → kind_of list ≡ kind
+  pub kind_is : (kind : ListKind) (others : List ℕ) → List2 members.lanes kind others (encoding list) → kind_of list ≡ kind
   kind_is kind others is = (opened_only2 kind others is).0
 
-  pub values_are : (kind : ListKind) (others : List ℕ) → List2 members.lanes kind others (text list) → values list ≡ others
+  pub values_are : (kind : ListKind) (others : List ℕ) → List2 members.lanes kind others (encoding list) → values list ≡ others
   values_are kind others is = (opened_only2 kind others is).1

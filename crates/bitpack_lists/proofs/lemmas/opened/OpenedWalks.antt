@@ -7,8 +7,8 @@ use Rattle.bitpacking.specs.declared.bit_packer.BitPacker.{Ghosts}
 use Rattle.bitpack_lists.specs.declared.opened.PackedList.{PackedList}
 use Rattle.bitpack_lists.specs.declared.list_kind.ListKind.TheVariants as lists
 use Rattle.bitpack_lists.specs.Parts.{tail_values}
-use Rattle.bitpack_lists.specs.inner.Searching.{block_of_list, blocks_of, mark_of_list, value_of}
-use Rattle.bitpack_lists.specs.inner.Walks.{AreNext, Begun, values_in}
+use Rattle.bitpack_lists.specs.inner.Searching.{block_of_list, blocks_of, skip_key_of_list, value_of}
+use Rattle.bitpack_lists.specs.inner.Walks.{AreNext, Started, values_in}
 use Rattle.bitpack_lists.proofs.lemmas.opened.Positions.{get_or-first_of}
 use Rattle.bitpack_lists.proofs.lemmas.opened.OpenedLists.{opened_at, opened_last, opened_length, opened_ordered}
 use Rattle.bitpack_lists.proofs.lemmas.opened.OpenedValues.{length-values, opened_list2}
@@ -37,9 +37,9 @@ module _ {P : Type 0} {members : Ghosts P} (list : PackedList P members) (some :
   pub block_room : (block : ℕ) → block < blocks → n * block + n ≤ list.count
   block_room block lt = omega (arith, mul-le n (block + 1) n blocks (omega arith) (omega arith), div-add-mod list.count n)
 
-  pub next_block : (begun : Begun) (block unpacked due : ℕ) (values : List ℕ) → block < blocks → values ≡ block_of_list list block
-      → (length values ≡ n) × AreNext (stage_of (values_in list) begun (n * block) unpacked due) values
-  next_block begun block unpacked due values lt is =
+  pub next_block : (started : Started) (block unpacked due : ℕ) (values : List ℕ) → block < blocks → values ≡ block_of_list list block
+      → (length values ≡ n) × AreNext (stage_of (values_in list) started (n * block) unpacked due) values
+  next_block started block unpacked due values lt is =
       let long : length values ≡ n = ap length is ∙ opened_length list some block lt in (
         long,
         record {
@@ -51,16 +51,16 @@ module _ {P : Type 0} {members : Ghosts P} (list : PackedList P members) (some :
       )
 
   -- A block that is passed over has values below its last.
-  pub block_below : (block want last : ℕ) → block < blocks → last ≡ mark_of_list list block → last < want → (k : ℕ) → k < n * (block + 1)
+  pub block_below : (block want last : ℕ) → block < blocks → last ≡ skip_key_of_list list block → last < want → (k : ℕ) → k < n * (block + 1)
       → value_of list k < want
   block_below block want last lt is below k within =
       let room = block_room block lt in
       let le = opened_order k (n * block + (n - 1)) (omega arith) (omega arith) in
       omega (arith, le, opened_last list some block lt, is, below)
 
-  pub next_tail : (begun : Begun) (unpacked due : ℕ) (values : List ℕ) → length values ≡ tail_values members.lanes list.count
-      → ((k : ℕ) → k < length values → get_or values k 0 ≡ value_of list (n * blocks + k)) → AreNext (stage_of (values_in list) begun (n * blocks) unpacked due) values
-  next_tail begun unpacked due values long each = record {
+  pub next_tail : (started : Started) (unpacked due : ℕ) (values : List ℕ) → length values ≡ tail_values members.lanes list.count
+      → ((k : ℕ) → k < length values → get_or values k 0 ≡ value_of list (n * blocks + k)) → AreNext (stage_of (values_in list) started (n * blocks) unpacked due) values
+  next_tail started unpacked due values long each = record {
     within = omega (arith, long, div-add-mod list.count n);
     are = λ k lt. sym (each k lt);
     words = opened_words;

@@ -7,7 +7,7 @@ use Rattle.bitpacking.specs.declared.bit_packer.BitPacker.{Ghosts}
 use Rattle.bitpack_lists.specs.declared.opened.PackedList.{PackedList}
 use Rattle.bitpack_lists.specs.declared.list_kind.ListKind.TheVariants as lists
 use Rattle.bitpack_lists.specs.Opened.{values}
-use Rattle.bitpack_lists.specs.Places.{InOrder}
+use Rattle.bitpack_lists.specs.LowerBounds.{InOrder}
 use Rattle.bitpack_lists.specs.inner.Searching.{HasPart, block_of_list, blocks_of, value_of}
 use Rattle.bitpack_lists.proofs.lemmas.opened.Positions.{get_or-first_of, left_tail, left_whole, left_within, length-first_of}
 use Rattle.bitpack_lists.proofs.lemmas.opened.OpenedLists.{opened_at, opened_ordered}

@@ -43,14 +43,14 @@ least_below-some test (suc bound) position e = or (λ e'. least_below-some test 
     or below None false is ends e = absurd cc
 
 module _ (values : Values) (target : ℕ) where
-  abbrev placed : ℕ → ℕ × ℕ
-  placed position = (position, values.value position)
+  abbrev with_value : ℕ → ℕ × ℕ
+  with_value position = (position, values.value position)
 
   pub sought_none : first_reaching values.value values.count target ≡ None → (k : ℕ) → k < values.count → values.value k < target
   sought_none e k lt = none (least_below (reaches values.value target) values.count) refl e
     where
       none : (found : Option ℕ) → least_below (reaches values.value target) values.count ≡ found
-          → option_map placed found ≡ None → values.value k < target
+          → option_map with_value found ≡ None → values.value k < target
       none None is e = leb-false target (values.value k) (least_below-none (reaches values.value target) values.count is k lt)
       none (Some found) is e = absurd cc
 
@@ -58,11 +58,11 @@ module _ (values : Values) (target : ℕ) where
   sought_some position value e = some (least_below (reaches values.value target) values.count) refl e
     where
       some : (found : Option ℕ) → least_below (reaches values.value target) values.count ≡ found
-          → option_map placed found ≡ Some (position, value) → IsFirst values target position value
+          → option_map with_value found ≡ Some (position, value) → IsFirst values target position value
       some None is e = absurd cc
       some (Some found) is e =
           let (lt, holds, fails) = least_below-some (reaches values.value target) values.count found is in
-          let pair : placed found ≡ (position, value) = cc in
+          let pair : with_value found ≡ (position, value) = cc in
           let here : found ≡ position = ap (λ (p : ℕ × ℕ). p.0) pair in
           let there : values.value found ≡ value = ap (λ (p : ℕ × ℕ). p.1) pair in
           record {
@@ -232,8 +232,8 @@ shared_common one other xs ys shared want are are' is = record {
 
 module _ (other : Values) (want count searches value : ℕ) (before : IsPast other want count searches) (le : want ≤ value) (small : value < 2 ^ 32) where
   -- a value that is found is at the position or after it
-  pub found_past : (position found : ℕ) → IsFirst other value position found → before.place ≤ position
-  found_past position found is = elim (cases_lt position before.place) [
+  pub found_past : (position found : ℕ) → IsFirst other value position found → before.passed_to ≤ position
+  found_past position found is = elim (cases_lt position before.passed_to) [
     | inl inside ↦
         let below = before.passed position inside in
         absurd (omega (arith, is.is, is.enough))
@@ -245,7 +245,7 @@ module _ (other : Values) (want count searches value : ℕ) (before : IsPast oth
       let from = found_past position value is in
       let few = before.few in
       record {
-        place = position + 1;
+        passed_to = position + 1;
         within = omega (arith, is.within);
         passed = λ k lt. elim (cases_lt k position) [
           | inl inside ↦
@@ -268,7 +268,7 @@ module _ (other : Values) (want count searches value : ℕ) (before : IsPast oth
       let from = found_past position found is in
       let few = before.few in
       record {
-        place = position;
+        passed_to = position;
         within = omega (arith, is.within);
         passed = λ k lt.
             let below = is.before k lt in
@@ -276,10 +276,10 @@ module _ (other : Values) (want count searches value : ℕ) (before : IsPast oth
         few = omega arith;
         allows = elim before.allows [
           | inl even ↦ inr (inl (omega arith, is.within, is.is))
-          | inr (inl odd) ↦ elim (cases_lt before.place position) [
+          | inr (inl odd) ↦ elim (cases_lt before.passed_to position) [
             | inl further ↦ inr (inl (omega (arith, odd.0), is.within, is.is))
             | inr same ↦
-                let here : position ≡ before.place = omega arith in
+                let here : position ≡ before.passed_to = omega arith in
                 let there : other.value position ≡ want = ap (λ k. other.value k) here ∙ odd.2 in
                 absurd (omega (arith, is.is))
           ]
@@ -291,7 +291,7 @@ module _ (other : Values) (want count searches value : ℕ) (before : IsPast oth
   past_none =
       let within = before.within in
       record {
-        place = before.place;
+        passed_to = before.passed_to;
         within = before.within;
         passed = λ k lt.
             let below = before.passed k lt in

@@ -17,7 +17,7 @@ module _ (lanes : ℕ) (other : Values) (stage : Stage) (values : List ℕ) (ind
   here = next.are index lt
 
   one_further : (want' last' : ℕ) (items' : List ℕ) (new : Reads)
-      → IsWalked lanes other (record { one = stage.one; begun = stage.begun; done = stage.done + index + 1; blocks = stage.blocks; due = stage.due }) want' last' items' capacity new
+      → IsWalked lanes other (record { one = stage.one; started = stage.started; done = stage.done + index + 1; blocks = stage.blocks; due = stage.due }) want' last' items' capacity new
       → IsWalked lanes other (further stage (index + 1)) want' last' items' capacity new
   one_further want' last' items' new walked =
       let same : stage.done + index + 1 ≡ stage.done + (index + 1) = omega arith in
@@ -26,7 +26,7 @@ module _ (lanes : ℕ) (other : Values) (stage : Stage) (values : List ℕ) (ind
   pub step_passed : get_or values index 0 < want → IsWalked lanes other (further stage (index + 1)) want last items capacity old
   step_passed below =
       one_further want last items old
-      (walked_passed lanes stage.one other stage.begun (stage.done + index) want last items capacity stage.blocks old stage.due next.ordered order next.words before within
+      (walked_passed lanes stage.one other stage.started (stage.done + index) want last items capacity stage.blocks old stage.due next.ordered order next.words before within
       (rw here below))
 
   -- there is room for a value that is found
@@ -35,7 +35,7 @@ module _ (lanes : ℕ) (other : Values) (stage : Stage) (values : List ℕ) (ind
   step_room len None long le answers = tt
   step_room len (Some (position, found)) long le answers = λ same.
       let is : IsFirst other (get_or values index 0) position found = sought_some other (get_or values index 0) position found answers in
-      rw long (room_left lanes stage.one other stage.begun (stage.done + index) want last items capacity stage.blocks old stage.due next.ordered order next.words before within
+      rw long (room_left lanes stage.one other stage.started (stage.done + index) want last items capacity stage.blocks old stage.due next.ordered order next.words before within
       position (rw here le) (rw here (rw same at is)))
 
   pub step_searched : (answer : Option (ℕ × ℕ)) (want' last' : ℕ) (items' : List ℕ) (new : Reads) → want ≤ get_or values index 0
@@ -43,5 +43,5 @@ module _ (lanes : ℕ) (other : Values) (stage : Stage) (values : List ℕ) (ind
       → Appends (get_or values index 0) answer items items' → IsWalked lanes other (further stage (index + 1)) want' last' items' capacity new
   step_searched answer want' last' items' new le sought wanted appends =
       one_further want' last' items' new
-      (walked_answer lanes stage.one other stage.begun (stage.done + index) want last items capacity stage.blocks old stage.due next.ordered order next.words before within
+      (walked_answer lanes stage.one other stage.started (stage.done + index) want last items capacity stage.blocks old stage.due next.ordered order next.words before within
       last' new (rw here le) answer want' items' (rw here sought) (rw here wanted) (rw here appends))

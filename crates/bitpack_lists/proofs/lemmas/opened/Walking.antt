@@ -7,11 +7,11 @@ use Rattle.std.proofs.lemmas.List.{length-append, append-nil}
 use Rattle.bitpack_lists.specs.declared.blocks.reads.Reads.{Reads}
 use Rattle.bitpack_lists.specs.Search.{HasGrown, first_reaching, in_whole_block}
 use Rattle.bitpack_lists.specs.Parts.{whole_blocks}
-use Rattle.bitpack_lists.specs.inner.Walks.{Appends, Begun, IsLastBlock, IsPast, IsShared, IsWalked, IsWantedNext, Stage, Values}
+use Rattle.bitpack_lists.specs.inner.Walks.{Appends, IsLastBlock, IsPast, IsShared, IsWalked, IsWantedNext, Stage, Started, Values}
 use Rattle.bitpack_lists.proofs.lemmas.opened.Sharing.{InOrder, IsFirst, found_past, length-more, past_equal, past_greater, past_none, searches_few, sought_none, sought_some, shared_more, shared_next, shared_passed, shared_upto}
 
-abbrev pub stage_of : Values → Begun → ℕ → ℕ → ℕ → Stage
-stage_of one begun done blocks due = record { one = one; begun = begun; done = done; blocks = blocks; due = due }
+abbrev pub stage_of : Values → Started → ℕ → ℕ → ℕ → Stage
+stage_of one started done blocks due = record { one = one; started = started; done = done; blocks = blocks; due = due }
 
 -- The result of a search for a value, which block it caches, and what it reads: a block is unpacked only if the result is in one that
 -- was not cached.
@@ -100,16 +100,16 @@ module _ (lanes : ℕ) (other : Values) (want value next block block' start : �
 
 -- ---- one more value
 
-module _ (lanes : ℕ) (one other : Values) (begun : Begun) (done want last : ℕ) (items : List ℕ) (capacity : ℕ) (unpacked : ℕ) (old : Reads) (due : ℕ)
+module _ (lanes : ℕ) (one other : Values) (started : Started) (done want last : ℕ) (items : List ℕ) (capacity : ℕ) (unpacked : ℕ) (old : Reads) (due : ℕ)
     (order : InOrder one) (order' : InOrder other) (words : ((k : ℕ) → k < one.count → one.value k < 2 ^ 32))
-    (before : IsWalked lanes other (stage_of one begun done unpacked due) want last items capacity old) (lt : done < one.count) where
+    (before : IsWalked lanes other (stage_of one started done unpacked due) want last items capacity old) (lt : done < one.count) where
   abbrev value : ℕ
   value = one.value done
 
   small : one.value done < 2 ^ 32
   small = words done lt
 
-  pub walked_passed : one.value done < want → IsWalked lanes other (stage_of one begun (done + 1) unpacked due) want last items capacity old
+  pub walked_passed : one.value done < want → IsWalked lanes other (stage_of one started (done + 1) unpacked due) want last items capacity old
   walked_passed below =
       let few = before.few in
       let each = before.each in
@@ -133,21 +133,21 @@ module _ (lanes : ℕ) (one other : Values) (begun : Begun) (done want last : �
   pub room_left : (position : ℕ) → want ≤ one.value done → IsFirst other (one.value done) position (one.value done)
       → length items < capacity
   room_left position le is =
-      let place_few = before.past.few in
+      let passed_few = before.past.few in
       let few = before.few in
       let room = before.room in
       let past = found_past other want (length before.shared) before.searches (one.value done) before.past le small position (one.value done) is in
       let within = is.within in
-      let long : length items ≡ length begun.items + length before.shared = ap length before.items_are ∙ length-append begun.items before.shared in
+      let long : length items ≡ length started.items + length before.shared = ap length before.items_are ∙ length-append started.items before.shared in
       omega arith
 
   module _ (last' : ℕ) (new : Reads) (le : want ≤ one.value done) where
     -- a value was searched, so `next` is wanted
     walked_searched : (next : ℕ) (shared' items' : List ℕ) (answer : Option (ℕ × ℕ)) → one.value done ≤ next
         → IsSought lanes other (one.value done) answer last last' old new
-        → items' ≡ begun.items ++ shared' → length shared' ≤ done + 1
+        → items' ≡ started.items ++ shared' → length shared' ≤ done + 1
         → IsShared one other (done + 1) next shared' → IsPast other next (length shared') (before.searches + 1)
-        → IsWalked lanes other (stage_of one begun (done + 1) unpacked due) next last' items' capacity new
+        → IsWalked lanes other (stage_of one started (done + 1) unpacked due) next last' items' capacity new
     walked_searched next shared' items' answer further sought are few is_shared past =
         let each = before.each in
         let blocks = before.blocks in
@@ -161,14 +161,14 @@ module _ (lanes : ℕ) (one other : Values) (begun : Begun) (done want last : �
           past = past;
           few = few;
           each = omega arith;
-          last_block = last_searched lanes other want (one.value done) next last last' begun.other_reads.blocks old new before.last_block le further more sought.again answer sought;
+          last_block = last_searched lanes other want (one.value done) next last last' started.other_reads.blocks old new before.last_block le further more sought.again answer sought;
           blocks = omega arith;
           entries = λ digits fits.
               let so_far = before.entries digits fits in
               let more = sought.entries digits fits in
               let product : (before.searches + 1) * digits ≡ before.searches * digits + digits = omega arith in
               omega arith;
-          grown = grown_further begun.other_reads old new before.grown sought.grown;
+          grown = grown_further started.other_reads old new before.grown sought.grown;
           paid = elim before.paid [
             | inl paid ↦ inl (omega arith)
             | inr owed ↦ inl (omega (arith, owed.0))
@@ -176,7 +176,7 @@ module _ (lanes : ℕ) (one other : Values) (begun : Begun) (done want last : �
         }
 
     walked_none : IsSought lanes other (one.value done) None last last' old new
-        → IsWalked lanes other (stage_of one begun (done + 1) unpacked due) (2 ^ 32) last' items capacity new
+        → IsWalked lanes other (stage_of one started (done + 1) unpacked due) (2 ^ 32) last' items capacity new
     walked_none sought =
         let few = before.few in
         walked_searched (2 ^ 32) before.shared items None (omega (arith, small)) sought before.items_are (omega arith)
@@ -187,7 +187,7 @@ module _ (lanes : ℕ) (one other : Values) (begun : Begun) (done want last : �
 
     walked_greater : (position found : ℕ) → one.value done < found
         → IsSought lanes other (one.value done) (Some (position, found)) last last' old new
-        → IsWalked lanes other (stage_of one begun (done + 1) unpacked due) found last' items capacity new
+        → IsWalked lanes other (stage_of one started (done + 1) unpacked due) found last' items capacity new
     walked_greater position found gt sought =
         let is : IsFirst other (one.value done) position found = sought_some other (one.value done) position found sought.answers in
         let few = before.few in
@@ -203,21 +203,21 @@ module _ (lanes : ℕ) (one other : Values) (begun : Begun) (done want last : �
         (past_greater other want (length before.shared) before.searches (one.value done) before.past le small position found gt is)
 
     walked_equal : (position : ℕ) → IsSought lanes other (one.value done) (Some (position, one.value done)) last last' old new
-        → IsWalked lanes other (stage_of one begun (done + 1) unpacked due) (one.value done + 1) last' (items ++ one.value done ∷ []) capacity new
+        → IsWalked lanes other (stage_of one started (done + 1) unpacked due) (one.value done + 1) last' (items ++ one.value done ∷ []) capacity new
     walked_equal position sought =
         let x : ℕ = one.value done in
         let is : IsFirst other x position x = sought_some other x position x sought.answers in
         let few = before.few in
         let long = length-more before.shared x in
         walked_searched (x + 1) (before.shared ++ x ∷ []) (items ++ x ∷ []) (Some (position, x)) (omega arith) sought
-        (ap (λ xs. xs ++ x ∷ []) before.items_are ∙ append_assoc begun.items before.shared (x ∷ [])) (omega arith)
+        (ap (λ xs. xs ++ x ∷ []) before.items_are ∙ append_assoc started.items before.shared (x ∷ [])) (omega arith)
         (shared_more one other before.shared done want order before.is_shared lt le (position, is.within, is.is))
         (subst (λ (n : ℕ). IsPast other (x + 1) n (before.searches + 1)) (sym long)
         (past_equal other want (length before.shared) before.searches x before.past le small position is))
 
     pub walked_answer : (answer : Option (ℕ × ℕ)) (next : ℕ) (items' : List ℕ) → IsSought lanes other (one.value done) answer last last' old new
         → IsWantedNext (one.value done) answer next → Appends (one.value done) answer items items'
-        → IsWalked lanes other (stage_of one begun (done + 1) unpacked due) next last' items' capacity new
+        → IsWalked lanes other (stage_of one started (done + 1) unpacked due) next last' items' capacity new
     walked_answer None next items' sought wanted appends = rw (wanted, appends) (walked_none sought)
     walked_answer (Some (position, found)) next items' sought wanted appends = elim (cases_eq found (one.value done)) [
       | inl same ↦ rw (wanted.0 same, appends.0 same) (walked_equal position (rw same at sought))
@@ -228,11 +228,11 @@ module _ (lanes : ℕ) (one other : Values) (begun : Begun) (done want last : �
 
 -- ---- more values
 
-module _ (lanes : ℕ) (one other : Values) (begun : Begun) (done want last : ℕ) (items : List ℕ) (capacity : ℕ) (unpacked : ℕ) (old : Reads) (due : ℕ)
-    (before : IsWalked lanes other (stage_of one begun done unpacked due) want last items capacity old) where
+module _ (lanes : ℕ) (one other : Values) (started : Started) (done want last : ℕ) (items : List ℕ) (capacity : ℕ) (unpacked : ℕ) (old : Reads) (due : ℕ)
+    (before : IsWalked lanes other (stage_of one started done unpacked due) want last items capacity old) where
   -- values below what is wanted are passed over, however many
   pub walked_upto : (upto : ℕ) → done ≤ upto → ((k : ℕ) → k < upto → one.value k < want)
-      → IsWalked lanes other (stage_of one begun upto unpacked due) want last items capacity old
+      → IsWalked lanes other (stage_of one started upto unpacked due) want last items capacity old
   walked_upto upto le below =
       let few = before.few in
       let each = before.each in
@@ -253,8 +253,8 @@ module _ (lanes : ℕ) (one other : Values) (begun : Begun) (done want last : �
       }
 
   walked_paid : (now due' : ℕ)
-      → ((now ≤ begun.reads.blocks + before.searches) ⊎ ((now ≤ begun.reads.blocks + before.searches + 1) × (want < due')))
-      → IsWalked lanes other (stage_of one begun done now due') want last items capacity old
+      → ((now ≤ started.reads.blocks + before.searches) ⊎ ((now ≤ started.reads.blocks + before.searches + 1) × (want < due')))
+      → IsWalked lanes other (stage_of one started done now due') want last items capacity old
   walked_paid now due' paid = record {
     shared = before.shared;
     searches = before.searches;
@@ -272,7 +272,7 @@ module _ (lanes : ℕ) (one other : Values) (begun : Begun) (done want last : �
   }
 
   -- a block of the list was visited to its end, and its last value was not below what was wanted before
-  pub walked_block : (end : ℕ) → end < done → due ≡ one.value end + 1 → IsWalked lanes other (stage_of one begun done unpacked 0) want last items capacity old
+  pub walked_block : (end : ℕ) → end < done → due ≡ one.value end + 1 → IsWalked lanes other (stage_of one started done unpacked 0) want last items capacity old
   walked_block end lt is = walked_paid unpacked 0 (elim before.paid [
     | inl paid ↦ inl paid
     | inr owed ↦
@@ -282,7 +282,7 @@ module _ (lanes : ℕ) (one other : Values) (begun : Begun) (done want last : �
 
   -- a block of the list was unpacked
   pub walked_unpacked : (now due' : ℕ) → due ≡ 0 → now ≤ unpacked + 1 → want < due'
-      → IsWalked lanes other (stage_of one begun done now due') want last items capacity old
+      → IsWalked lanes other (stage_of one started done now due') want last items capacity old
   walked_unpacked now due' none more lt = walked_paid now due' (elim before.paid [
     | inl paid ↦ inr (omega arith, lt)
     | inr owed ↦ absurd (omega (arith, owed.1))
@@ -290,7 +290,7 @@ module _ (lanes : ℕ) (one other : Values) (begun : Begun) (done want last : �
 
   -- ---- the end of a walk
 
-  pub walked_few : due ≡ 0 → unpacked ≤ begun.reads.blocks + (2 * other.count + 1)
+  pub walked_few : due ≡ 0 → unpacked ≤ started.reads.blocks + (2 * other.count + 1)
   walked_few none =
       let few = searches_few other want (length before.shared) before.searches before.past in
       elim before.paid [
@@ -299,7 +299,7 @@ module _ (lanes : ℕ) (one other : Values) (begun : Begun) (done want last : �
       ]
 
   -- no more blocks of the other list were unpacked than it has, nor than values were visited
-  pub blocks_few : old.blocks ≤ begun.other_reads.blocks + min (whole_blocks lanes other.count) done
+  pub blocks_few : old.blocks ≤ started.other_reads.blocks + min (whole_blocks lanes other.count) done
   blocks_few =
       let each = before.each in
       let blocks = before.blocks in
@@ -312,7 +312,7 @@ module _ (lanes : ℕ) (one other : Values) (begun : Begun) (done want last : �
             omega arith
       ]
 
-  pub entries_few : (digits : ℕ) → whole_blocks lanes other.count < 2 ^ digits → old.entries ≤ begun.other_reads.entries + done * digits
+  pub entries_few : (digits : ℕ) → whole_blocks lanes other.count < 2 ^ digits → old.entries ≤ started.other_reads.entries + done * digits
   entries_few digits fits =
       let so_far = before.entries digits fits in
       let most : before.searches * digits ≤ done * digits = mul-le before.searches digits done digits before.each (omega arith) in
@@ -320,13 +320,13 @@ module _ (lanes : ℕ) (one other : Values) (begun : Begun) (done want last : �
 
 -- ---- the beginning of a walk
 
-pub walked_none_yet : (lanes : ℕ) (one other : Values) (begun : Begun) (last capacity : ℕ) → whole_blocks lanes other.count ≤ last
-    → length begun.items + min (one.count) other.count ≤ capacity
-    → IsWalked lanes other (stage_of one begun 0 begun.reads.blocks 0) 0 last begun.items capacity begun.other_reads
-walked_none_yet lanes one other begun last capacity past room = record {
+pub walked_none_yet : (lanes : ℕ) (one other : Values) (started : Started) (last capacity : ℕ) → whole_blocks lanes other.count ≤ last
+    → length started.items + min (one.count) other.count ≤ capacity
+    → IsWalked lanes other (stage_of one started 0 started.reads.blocks 0) 0 last started.items capacity started.other_reads
+walked_none_yet lanes one other started last capacity past room = record {
   shared = [];
   searches = 0;
-  items_are = sym (append-nil begun.items);
+  items_are = sym (append-nil started.items);
   room = room;
   is_shared = record {
     below = λ k lt. absurd (omega arith);
@@ -335,7 +335,7 @@ walked_none_yet lanes one other begun last capacity past room = record {
     complete = λ v in_one in_other lt. absurd (omega arith);
   };
   past = record {
-    place = 0;
+    passed_to = 0;
     within = omega arith;
     passed = λ k lt. absurd (omega arith);
     few = omega arith;

@@ -8,12 +8,12 @@ use Rattle.bitpack_lists.specs.declared.list_kind.ListKind.{ListKind}
 use Rattle.bitpack_lists.specs.declared.list_kind.ListKind.TheVariants as lists
 use Rattle.bitpack_lists.specs.Parts.{header_fault, count_of, whole_blocks, tail_values, first_kind, BeginsWithHeader}
 use Rattle.bitpack_lists.specs.Version1.{Blocks1, List1, blocks_fault1, body_fault1, fault1}
-use Rattle.bitpack_lists.specs.Laws.{LooseFitsSmaller, OneText1, OneList1, NoFault1}
+use Rattle.bitpack_lists.specs.Laws.{LooseFitsSmaller, OneEncoding1, OneList1, NoFault1}
 use Rattle.bitpack_lists.proofs.lemmas.blocks.PartLemmas.{AreBytes-drop}
 use Rattle.bitpack_lists.proofs.lemmas.blocks.LooseLemmas.{Decides-loose}
 use Rattle.bitpack_lists.proofs.lemmas.blocks.HeaderLemmas.{header_bytes, header_fault-none, header_from_fault, kind_byte-same}
 use Rattle.bitpack_lists.proofs.lemmas.blocks.FaultLemmas.{none_first, body_next, body_blocks, body_from_none}
-use Rattle.bitpack_lists.proofs.lemmas.v1.OneText1.{same_blocks, same_values}
+use Rattle.bitpack_lists.proofs.lemmas.v1.OneEncoding1.{same_blocks, same_values}
 use Rattle.bitpack_lists.proofs.lemmas.blocks.ReadSteps.{values_from_none, none_from_values}
 
 start-first : (kind : ListKind) → start (first_kind kind) < 2 ^ 32
@@ -68,36 +68,36 @@ header_right lanes bytes none = (none_first (header_fault 1 lanes bytes) (body_f
 pub loose_fits_smaller : LooseFitsSmaller
 loose_fits_smaller lanes width codes bytes layout = Decides-loose lanes width codes bytes layout
 
-pub one_text1 : OneText1
-one_text1 lanes kind values text other some small small' one two =
-    let front : take 7 other ≡ take 7 text = two.begins.front ∙ sym one.begins.front in
-    let later : drop 7 other ≡ drop 7 text =
-    same_blocks lanes (whole_blocks lanes (length values)) (first_kind kind) values (drop 7 text) (drop 7 other) some
-    (AreBytes-drop 7 text small) (AreBytes-drop 7 other small') one.blocks two.blocks in
-    sym (take-append-drop 7 other) ∙ rw (front, later) (take-append-drop 7 text)
+pub one_encoding1 : OneEncoding1
+one_encoding1 lanes kind values encoding other some small small' one two =
+    let front : take 7 other ≡ take 7 encoding = two.begins.front ∙ sym one.begins.front in
+    let later : drop 7 other ≡ drop 7 encoding =
+    same_blocks lanes (whole_blocks lanes (length values)) (first_kind kind) values (drop 7 encoding) (drop 7 other) some
+    (AreBytes-drop 7 encoding small) (AreBytes-drop 7 other small') one.blocks two.blocks in
+    sym (take-append-drop 7 other) ∙ rw (front, later) (take-append-drop 7 encoding)
 
 pub one_list1 : OneList1
-one_list1 lanes kind kind' values others text some one two =
-    let first = header_bytes 1 lanes kind (length values) text one.begins in
-    let second = header_bytes 1 lanes kind' (length others) text two.begins in
+one_list1 lanes kind kind' values others encoding some one two =
+    let first = header_bytes 1 lanes kind (length values) encoding one.begins in
+    let second = header_bytes 1 lanes kind' (length others) encoding two.begins in
     let same : kind' ≡ kind = kind_byte-same kind' kind (sym second.kind_is ∙ first.kind_is) in
     let long : length others ≡ length values = sym second.count_is ∙ first.count_is in
-    let blocks : Blocks1 lanes (whole_blocks lanes (length values)) (first_kind kind') others (drop 7 text) =
-    subst (λ n. Blocks1 lanes (whole_blocks lanes n) (first_kind kind') others (drop 7 text)) long two.blocks in (
+    let blocks : Blocks1 lanes (whole_blocks lanes (length values)) (first_kind kind') others (drop 7 encoding) =
+    subst (λ n. Blocks1 lanes (whole_blocks lanes n) (first_kind kind') others (drop 7 encoding)) long two.blocks in (
       same,
-      same_values lanes (whole_blocks lanes (length values)) (first_kind kind) (first_kind kind') values others (drop 7 text) some (ap first_kind same)
+      same_values lanes (whole_blocks lanes (length values)) (first_kind kind) (first_kind kind') values others (drop 7 encoding) some (ap first_kind same)
           one.words two.words one.blocks blocks,
     )
 
-pub text_from_none : (lanes : ℕ) (bytes : List ℕ) → 0 < lanes → AreBytes bytes → fault1 lanes bytes ≡ None
+pub encoding_from_none : (lanes : ℕ) (bytes : List ℕ) → 0 < lanes → AreBytes bytes → fault1 lanes bytes ≡ None
     → (kind : ListKind) × (values : List ℕ) × List1 lanes kind values bytes
-text_from_none lanes bytes some small none =
+encoding_from_none lanes bytes some small none =
     let header = header_from_fault 1 lanes bytes small (header_right lanes bytes none) in
     let found = list_from_none lanes (count_of bytes) _ bytes some small header none in
     (_, found.0, found.2)
 
 pub no_fault1 : NoFault1
 no_fault1 lanes bytes some small = (
-  text_from_none lanes bytes some small,
+  encoding_from_none lanes bytes some small,
   λ found. none_from_list lanes found.0 found.1 bytes some found.2,
 )

@@ -17,7 +17,7 @@ use Rattle.bitpack_lists.proofs.lemmas.blocks.FaultLemmas.{none_first}
 use Rattle.bitpack_lists.proofs.lemmas.blocks.HeaderLemmas.{header_bytes, header_fault-none, header_from_fault, passed}
 use Rattle.bitpack_lists.proofs.lemmas.blocks.PartLemmas.{AreBytes-drop, word-drop, word-lt, words_of}
 use Rattle.bitpack_lists.proofs.lemmas.blocks.RestLemmas.{length-tail}
-use Rattle.bitpack_lists.proofs.lemmas.blocks.WholeBlocks.{AreSound, AreWords-values_with, blocks_held, blocks_sound, length-values_with, order_from_none, ordered_is, ordered_with, sound_blocks, sound_from_blocks, tail_held, value_held, values_with}
+use Rattle.bitpack_lists.proofs.lemmas.blocks.WholeBlocks.{AreSound, AreWords-values_with, blocks_packed, blocks_sound, length-values_with, order_from_none, ordered_is, ordered_with, sound_blocks, sound_from_blocks, tail_packed, value_packed, values_with}
 
 -- ---- header and rest
 
@@ -100,10 +100,10 @@ module _ (lanes count : ℕ) (kind : ListKind) (rest : List ℕ) (some : 1 ≤ l
   rest_from_sound =
       let (words, are, long, bytes) = words_of (tail_values lanes count) later (AreBytes-drop (tail_start lanes blocks rest) rest small)
       (omega (arith, length-drop (tail_start lanes blocks rest) rest, sound.long)) in
-      let same = tail_held lanes count kind rest (word later) some small whole word_of_tail words long
+      let same = tail_packed lanes count kind rest (word later) some small whole word_of_tail words long
       (λ k lt. sym (words_read_back words k are lt) ∙ ap (λ zs. word zs k) (sym bytes)) in
       record {
-        whole = blocks_held lanes count kind rest (word later) some small whole word_of_tail;
+        whole = blocks_packed lanes count kind rest (word later) some small whole word_of_tail;
         tail = bytes ∙ ap bytes_of_words (sym same);
       }
 
@@ -146,7 +146,7 @@ module _ (lanes : ℕ) (kind : ListKind) (values bytes : List ℕ) (some : 1 ≤
   value_given =
       let left : List ℕ = drop (32 * lanes * blocks_of) values in
       let words : AreWords left = All-drop (λ v. v < 2 ^ 32) (32 * lanes * blocks_of) values list.words in
-      value_held lanes kind values rest some (AreBytes-drop 7 bytes small) list.words list.rest.whole (word (drop (tail_start lanes blocks_of rest) rest))
+      value_packed lanes kind values rest some (AreBytes-drop 7 bytes small) list.words list.rest.whole (word (drop (tail_start lanes blocks_of rest) rest))
       (λ k lt. sym (words_read_back left k words lt) ∙ ap (λ zs. word zs k) (sym list.rest.tail))
 
   whole_given : AreSound lanes blocks_of kind rest

@@ -21,7 +21,7 @@ use Rattle.bitpack_lists.proofs.lemmas.blocks.BlockLemmas.{block_end, get_or-blo
 use Rattle.bitpack_lists.proofs.lemmas.blocks.EntryLemmas.{Entered, bodies_step, entered_step, kind_at-append, last_at-append}
 use Rattle.bitpack_lists.proofs.lemmas.blocks.FaultLemmas.{IsRight, none_first, right_from_none, tail_from_none}
 use Rattle.bitpack_lists.proofs.lemmas.blocks.Orders.{least_below-further, ordered_first}
-use Rattle.bitpack_lists.proofs.lemmas.v1.OneText1.{same_front}
+use Rattle.bitpack_lists.proofs.lemmas.v1.OneEncoding1.{same_front}
 use Rattle.bitpack_lists.proofs.lemmas.blocks.WriteSteps.{one-less}
 
 -- ---- how many bytes are left
@@ -114,12 +114,12 @@ module _ (lanes len count i last : ℕ) (kind : ListKind) (block_kind : Kind) (v
   upto : len * i + length block ≡ 32 * lanes * (i + 1)
   upto = rw whole (omega (arith, long_block))
 
-  in_place : (k : ℕ) → k < length block → all (len * i + k) ≡ get_or block k 0
-  in_place k within =
+  at_position : (k : ℕ) → k < length block → all (len * i + k) ≡ get_or block k 0
+  at_position k within =
       rw (whole, same) (sym (get_or-block_of lanes i k values (omega (arith, within, long_block))))
 
   found_is : found ≡ least_below (is_out kind all) (32 * lanes * (i + 1))
-  found_is = finds all (rw whole before.0) in_place ∙ ap (least_below (is_out kind all)) upto
+  found_is = finds all (rw whole before.0) at_position ∙ ap (least_below (is_out kind all)) upto
 
   pub in_order_found : (position : ℕ) → found ≡ Some position → Some position ≡ first_out kind values
   in_order_found position e = sym (least_below-further (is_out kind all) (32 * lanes * (i + 1)) (length values) position end (sym found_is ∙ e))

@@ -19,8 +19,8 @@ use Rattle.bitpack_lists.specs.inner.Upgrading.{IsRest1}
 use Rattle.bitpack_lists.proofs.lemmas.blocks.BlockLemmas.{kind_at-next, values_after}
 use Rattle.bitpack_lists.proofs.lemmas.blocks.HeaderLemmas.{header_bytes, kind_byte-same}
 use Rattle.bitpack_lists.proofs.lemmas.blocks.PartLemmas.{AreBytes-drop, AreBytes-left, AreBytes-right}
-use Rattle.bitpack_lists.proofs.lemmas.blocks.RestLemmas.{length-tail, length-text2}
-use Rattle.bitpack_lists.proofs.lemmas.v1.OneText1.{length-part}
+use Rattle.bitpack_lists.proofs.lemmas.blocks.RestLemmas.{length-encoding2, length-tail}
+use Rattle.bitpack_lists.proofs.lemmas.v1.OneEncoding1.{length-part}
 
 -- The bytes encode the kind and the count that the header says.
 pub listed : (lanes count : ℕ) (kind kind' : ListKind) (values bytes : List ℕ) → BeginsWithHeader 1 lanes kind count bytes → List1 lanes kind' values bytes
@@ -60,15 +60,15 @@ module _ (lanes blocks : ℕ) (kind : ListKind) (values other : List ℕ) (some 
       omega (arith, ap length parts, length-append part after, long, later)
 
 -- In version 2 there are eight bytes more for each whole block.
-pub length_upgraded : (lanes : ℕ) (kind : ListKind) (values text other : List ℕ) → 1 ≤ lanes → List1 lanes kind values text → List2 lanes kind values other
-    → length other ≡ length text + 8 * whole_blocks lanes (length values)
-length_upgraded lanes kind values text other some one two =
+pub length_upgraded : (lanes : ℕ) (kind : ListKind) (values encoding other : List ℕ) → 1 ≤ lanes → List1 lanes kind values encoding → List2 lanes kind values other
+    → length other ≡ length encoding + 8 * whole_blocks lanes (length values)
+length_upgraded lanes kind values encoding other some one two =
     let blocks : ℕ = whole_blocks lanes (length values) in
     let none : 32 * lanes * 0 ≡ 0 = omega arith in
-    let given : Blocks1 lanes blocks (first_kind kind) (drop (32 * lanes * 0) values) (drop 7 text) = rw none one.blocks in
-    let left = length_left lanes blocks kind values (drop 7 other) some two.rest.whole.entries blocks 0 (drop 7 text) (omega arith) given in
-    let found = header_bytes 1 lanes kind (length values) text one.begins in
-    omega (arith, left, found.long, length-drop 7 text, length-tail lanes values some, length-text2 lanes kind values other some two)
+    let given : Blocks1 lanes blocks (first_kind kind) (drop (32 * lanes * 0) values) (drop 7 encoding) = rw none one.blocks in
+    let left = length_left lanes blocks kind values (drop 7 other) some two.rest.whole.entries blocks 0 (drop 7 encoding) (omega arith) given in
+    let found = header_bytes 1 lanes kind (length values) encoding one.begins in
+    omega (arith, left, found.long, length-drop 7 encoding, length-tail lanes values some, length-encoding2 lanes kind values other some two)
 
 -- ---- the same bytes in both
 
@@ -97,8 +97,8 @@ module _ (lanes blocks : ℕ) (kind : ListKind) (values other : List ℕ) (some 
       rw parts (rw part_is (sym (append_assoc (parts_before lanes blocks other i) (width_at other i ∷ body_at lanes blocks other i) after) ∙ rw add-one at later))
 
 pub same_bodies : SameBodies
-same_bodies lanes kind values text other some small small' one two =
+same_bodies lanes kind values encoding other some small small' one two =
     let blocks : ℕ = whole_blocks lanes (length values) in
     let none : 32 * lanes * 0 ≡ 0 = omega arith in
-    let given : Blocks1 lanes blocks (first_kind kind) (drop (32 * lanes * 0) values) (drop 7 text) = rw none one.blocks in
-    parts_left lanes blocks kind values (drop 7 other) some (AreBytes-drop 7 other small') two.rest blocks 0 (drop 7 text) (omega arith) (AreBytes-drop 7 text small) given
+    let given : Blocks1 lanes blocks (first_kind kind) (drop (32 * lanes * 0) values) (drop 7 encoding) = rw none one.blocks in
+    parts_left lanes blocks kind values (drop 7 other) some (AreBytes-drop 7 other small') two.rest blocks 0 (drop 7 encoding) (omega arith) (AreBytes-drop 7 encoding small) given

@@ -5,7 +5,7 @@ use Rattle.bitpack_sets.proofs.FrontLaws.{all_ids, later_set}
 use Rattle.bitpack_sets.proofs.appending.append_after.Goals as goal
 use Rattle.bitpack_sets.specs.Fronts.{front_ids}
 use Rattle.bitpack_sets.specs.Opened.{ids}
-use Rattle.bitpack_sets.specs.Sets.{IsSet, in_chunks, parts, text}
+use Rattle.bitpack_sets.specs.Sets.{IsSet, encoding, in_chunks, parts}
 use Rattle.bitpack_sets.specs.Written.{Appends}
 
 later : (room items part ids more : List ℕ) (from from' : ℕ) → part ≡ items → items ≡ room ++ (drop from ids ++ more) → room ≡ [] → from ≡ from' → part ≡ drop from' ids ++ more
@@ -38,5 +38,5 @@ returns c =
     let long = length-append (ids c.args.set.now) c.args.more.now in
     let size = c.len-2.ensures in
     let apart = c.if-len-more.false in
-    let bytes : in_chunks (first ++ c.as_slice-2.result.now) ≡ text all = ap in_chunks same ∙ sym (chunks_is all c.measure-chunks.result.0 (omega arith) count (omega arith)) in
+    let bytes : in_chunks (first ++ c.as_slice-2.result.now) ≡ encoding all = ap in_chunks same ∙ sym (chunks_is all c.measure-chunks.result.0 (omega arith) count (omega arith)) in
     subst (λ (l : List ℕ). Appends l c.append_copied.result c.args.out.now c.append_copied.new.out) bytes c.append_copied.ensures

@@ -6,12 +6,12 @@ use Rattle.bitpack_sets.proofs.RefusalLaws.{none_refused}
 use Rattle.bitpack_sets.proofs.appending.write_after.Goals as goal
 use Rattle.bitpack_sets.specs.Fronts.{front_ids}
 use Rattle.bitpack_sets.specs.Opened.{ids}
-use Rattle.bitpack_sets.specs.Sets.{IsSet, in_chunks, parts, text}
+use Rattle.bitpack_sets.specs.Sets.{IsSet, encoding, in_chunks, parts}
 use Rattle.bitpack_sets.specs.Written.{WritesBytes}
 
 any_ok : {A E P : Type 0} (result : Result A E) → P → OnOk result P
-any_ok (Ok x) holds = holds
-any_ok (Err x) holds = tt
+any_ok (Ok x) fact = fact
+any_ok (Err x) fact = tt
 
 later : (part ids more : List ℕ) (from from' : ℕ) → part ≡ drop from ids ++ more → from ≡ from' → part ≡ drop from' ids ++ more
 later part ids more from from' e f = e ∙ ap (λ (n : ℕ). drop n ids ++ more) f
@@ -49,7 +49,7 @@ returns c =
     let long = length-append (ids c.args.set.now) c.args.more.now in
     let size = c.len-2.ensures in
     let apart = c.if-len-more.false in
-    let bytes : in_chunks (first ++ part) ≡ text all = ap in_chunks same ∙ sym (chunks_is all c.measure-chunks.result.0 (omega arith) chunks (omega arith)) in
+    let bytes : in_chunks (first ++ part) ≡ encoding all = ap in_chunks same ∙ sym (chunks_is all c.measure-chunks.result.0 (omega arith) chunks (omega arith)) in
     let w = subst (λ (l : List ℕ). WritesBytes l c.write_copied.result c.args.out.now c.write_copied.new.out) bytes c.write_copied.ensures in
     record {
       set = any_ok c.write_copied.result c.requires.set;

@@ -15,8 +15,8 @@ one_more chunks i key before change xs some lt e f same other few so_far = elim 
   | inl (equal, is) ↦
       let none = same is in
       let there = counted_same 65536 chunks i xs some lt (sym e ∙ is ∙ f) so_far in
-      let stays : chunks ≡ chunks + change = omega arith in
-      (omega arith, subst (λ (n : ℕ). Counted 65536 n (i + 1) xs) stays there)
+      let unchanged : chunks ≡ chunks + change = omega arith in
+      (omega arith, subst (λ (n : ℕ). Counted 65536 n (i + 1) xs) unchanged there)
   | inr (differs, isnt) ↦
       let one = other isnt in
       let there = counted_other 65536 chunks i xs some lt (λ g. isnt (e ∙ g ∙ sym f)) so_far in

@@ -1,4 +1,4 @@
--- What is at its place tells a number.
+-- What is at its position tells a number.
 use Rattle.std.proofs.Common.{◌∙◌, ◌^◌, ap, sym, arith, ℕ, eqb}
 use Rattle.bitpack_sets.proofs.HalfLaws.{has_at_rank, has_not}
 use Rattle.bitpack_sets.proofs.NumberReads.{quads_len}

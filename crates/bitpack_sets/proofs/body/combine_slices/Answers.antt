@@ -2,11 +2,11 @@
 use Rattle.std.proofs.Common.{arith}
 use Rattle.bitpack_sets.proofs.BitmapLaws.{those_few}
 use Rattle.bitpack_sets.proofs.body.combine_slices.Goals as goal
-use Rattle.bitpack_sets.specs.Operations.{holds}
+use Rattle.bitpack_sets.specs.Operations.{apply}
 use Rattle.bitpack_sets.specs.Reads.{has}
 use Rattle.bitpack_sets.specs.Selections.{parts_numbers}
 
 pub overflow_add-result : goal.overflow_add-result
 overflow_add-result c =
-    let few = those_few 65536 (λ x. holds c.args.operation (has x (parts_numbers c.new-a.result)) (has x (parts_numbers c.new-b.result))) in
+    let few = those_few 65536 (λ x. apply c.args.operation (has x (parts_numbers c.new-a.result)) (has x (parts_numbers c.new-b.result))) in
     omega (arith, c.count_combined.ensures, c.requires.start)

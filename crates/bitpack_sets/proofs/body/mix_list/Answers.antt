@@ -8,12 +8,12 @@ use Rattle.bitpack_sets.specs.Lists.{listed_ids}
 use Rattle.bitpack_sets.specs.Operations.{combined}
 use Rattle.bitpack_sets.specs.Selections.{parts_numbers}
 
-pub mark-highs-requires : goal.mark-highs-requires
-mark-highs-requires c x = has_none 1024 x
+pub set_bits-highs-requires : goal.set_bits-highs-requires
+set_bits-highs-requires c x = has_none 1024 x
 
 pub returns : goal.returns
 returns c =
     let f : List ℕ → List ℕ = λ xs. map (λ low. c.args.key * 65536 + low) xs in
     let xs = lows_in (listed_ids c.args.list.now) in
-    follow_as _ _ _ _ _ _ (ap f (mixed_of_key c.args.operation (parts_numbers c.new-blocks.result) xs c.mark-highs.result c.mark-highs.new.words c.mark-highs.ensures.bits c.mark-highs.ensures.highs
+    follow_as _ _ _ _ _ _ (ap f (mixed_of_key c.args.operation (parts_numbers c.new-blocks.result) xs c.set_bits-highs.result c.set_bits-highs.new.words c.set_bits-highs.ensures.bits c.set_bits-highs.ensures.highs
     ∙ ap (λ (numbers : List ℕ). combined 65536 c.args.operation numbers xs) c.new-blocks.ensures)) c.mix.ensures

@@ -1,6 +1,6 @@
 use Rattle.bitpack_sets.specs.Opened.{ids}
 use Rattle.bitpack_sets.specs.Operations.{answer}
-use Rattle.bitpack_sets.specs.Pairs.{left, places_left}
+use Rattle.bitpack_sets.specs.Pairs.{left, positions_left}
 use Rattle.bitpack_sets.proofs.AnswerLaws.{Counted}
 use Rattle.bitpack_sets.proofs.combining.gives_none.Given as goal
 
@@ -8,4 +8,4 @@ abbrev pub invariant-loop-meeting : goal.invariant-loop-meeting
 invariant-loop-meeting l = Counted 0 (answer l.fn.operation (ids l.fn.a) (ids l.fn.b)) (left l.pair)
 
 abbrev pub decreases-loop-meeting : goal.decreases-loop-meeting
-decreases-loop-meeting l = places_left l.pair
+decreases-loop-meeting l = positions_left l.pair

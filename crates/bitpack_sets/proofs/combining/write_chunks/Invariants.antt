@@ -3,7 +3,7 @@ use Rattle.std.proofs.Common.{◌≡◌, ◌^◌, length}
 use Rattle.bitpack_sets.proofs.FollowLaws.{IsLeft}
 use Rattle.bitpack_sets.proofs.combining.write_chunks.Given as goal
 use Rattle.bitpack_sets.specs.Operations.{those}
-use Rattle.bitpack_sets.specs.Pairs.{left, places_left}
+use Rattle.bitpack_sets.specs.Pairs.{left, positions_left}
 
 abbrev pub invariant-loop-meeting : goal.invariant-loop-meeting
 invariant-loop-meeting l = record {
@@ -12,4 +12,4 @@ invariant-loop-meeting l = record {
 }
 
 abbrev pub decreases-loop-meeting : goal.decreases-loop-meeting
-decreases-loop-meeting l = places_left l.pair
+decreases-loop-meeting l = positions_left l.pair

@@ -18,13 +18,13 @@ loop-i-preserved g c =
     elim c.if-i-a.branch [
       | then-i-a+then-i-b w ↦ (
           let own = set_ids f c.args.sets.now c.loop-i.i w.index-sets-i.result inside w.index-sets-i.is in
-          let kept = w.keep-count.ensures in
-          let few = kept.within in
+          let retained = w.retain_if-count.ensures in
+          let few = retained.within in
           rw (w.out-is, w.count-is) (record {
-            within = (let all = length-append w.keep-count.new.values (drop c.loop-i.count c.loop-i.out) in omega arith);
-            ids = take-append-le w.keep-count.result w.keep-count.new.values (drop c.loop-i.count c.loop-i.out) kept.within
+            within = (let all = length-append w.retain_if-count.new.values (drop c.loop-i.count c.loop-i.out) in omega arith);
+            ids = take-append-le w.retain_if-count.result w.retain_if-count.new.values (drop c.loop-i.count c.loop-i.out) retained.within
                 ∙ pick_more (get_or all c.args.a []) (get_or all c.args.b []) (ids w.as_set-then-i-b.result) all c.loop-i.i (take c.loop-i.count c.loop-i.out)
-                (take w.keep-count.result w.keep-count.new.values) (omega arith) (own ∙ sym w.as_set-then-i-b.ensures) inv.ids kept.kept;
+                (take w.retain_if-count.result w.retain_if-count.new.values) (omega arith) (own ∙ sym w.as_set-then-i-b.ensures) inv.ids retained.retained;
           }))
       | else-i-a w ↦ rw (w.out-is, w.count-is) (record {
         within = inv.within;

@@ -15,11 +15,11 @@ loop-i-preserved g c =
     let inside = c.loop-i-test.true in
     let two = c.loop-i.auto.i in
     let own = set_ids f c.args.sets.now c.loop-i.i c.index-sets-i.result inside c.index-sets-i.is in
-    let kept = c.keep-count.ensures in
-    let few = kept.within in
+    let retained = c.retain_if-count.ensures in
+    let few = retained.within in
     record {
-      within = (let whole = length-append c.keep-count.new.values (drop c.loop-i.count c.loop-i.out) in omega arith);
-      ids = take-append-le c.keep-count.result c.keep-count.new.values (drop c.loop-i.count c.loop-i.out) kept.within
-          ∙ drop_more (ids c.as_set-in-loop-i.result) all c.loop-i.i (take c.loop-i.count c.loop-i.out) (take c.keep-count.result c.keep-count.new.values) (omega arith) (omega arith)
-          (own ∙ sym c.as_set-in-loop-i.ensures) inv.ids kept.kept;
+      within = (let whole = length-append c.retain_if-count.new.values (drop c.loop-i.count c.loop-i.out) in omega arith);
+      ids = take-append-le c.retain_if-count.result c.retain_if-count.new.values (drop c.loop-i.count c.loop-i.out) retained.within
+          ∙ drop_more (ids c.as_set-in-loop-i.result) all c.loop-i.i (take c.loop-i.count c.loop-i.out) (take c.retain_if-count.result c.retain_if-count.new.values) (omega arith) (omega arith)
+          (own ∙ sym c.as_set-in-loop-i.ensures) inv.ids retained.retained;
     }

@@ -3,7 +3,7 @@ use Rattle.std.proofs.Common.{◌<◌, ◌≤◌, ◌≡◌, ◌+◌, ◌-◌, �
 use Rattle.std.proofs.lemmas.List.{length-drop, length-take-le, take_all}
 use Rattle.bitpack_sets.specs.Directory.{body_at, body_numbers_of, count_at, key_at}
 use Rattle.bitpack_sets.specs.Slices.{pairs_of}
-use Rattle.bitpack_sets.proofs.ChunkReads.{blocks_told, numbers_told, raised_same}
+use Rattle.bitpack_sets.proofs.ChunkReads.{blocks_known, numbers_known, raised_same}
 use Rattle.bitpack_sets.proofs.HalfLaws.{pairs_len}
 use Rattle.bitpack_sets.proofs.RangeLaws.{pairs_range}
 use Rattle.bitpack_sets.proofs.decoding.unpack_chunk_from.Goals as goal
@@ -43,7 +43,7 @@ returns-then-body-own c =
     let size : length xs ≡ count_at c.args.chunks rest m = (c.requires.rest.bodies m c.requires.chunk).count_is in
     let few = c.requires.within in
     let read : pairs_of part ≡ take n (drop from xs) = pairs_range n from body
-    ∙ ap (λ (l : List ℕ). take n (drop from l)) (numbers_told c.args.chunks m _ _ rest body c.sum_at.ensures c.count_before.ensures c.body_of-body.ensures c.if-body-own.true) in
+    ∙ ap (λ (l : List ℕ). take n (drop from l)) (numbers_known c.args.chunks m _ _ rest body c.sum_at.ensures c.count_before.ensures c.body_of-body.ensures c.if-body-own.true) in
     let long = ap length read ∙ length-take-le n (drop from xs) (omega (arith, length-drop from xs)) in
     let pairs = pairs_len part in
     let end = c.unpack_numbers.ensures.end in
@@ -53,21 +53,21 @@ returns-then-body-own c =
 
 pub unpack_blocks_from-requires-clause-blocks : goal.unpack_blocks_from-requires-clause-blocks
 unpack_blocks_from-requires-clause-blocks c =
-    (blocks_told c.args.count c.args.chunks c.args.chunk _ _ c.args.rest.now _ c.requires.rest c.requires.chunk c.sum_at.ensures c.count_before.ensures c.body_of-body.ensures c.if-body-own.false).are
+    (blocks_known c.args.count c.args.chunks c.args.chunk _ _ c.args.rest.now _ c.requires.rest c.requires.chunk c.sum_at.ensures c.count_before.ensures c.body_of-body.ensures c.if-body-own.false).are
 
 pub unpack_blocks_from-requires-clause-begin : goal.unpack_blocks_from-requires-clause-begin
 unpack_blocks_from-requires-clause-begin c =
-    let told = blocks_told c.args.count c.args.chunks c.args.chunk _ _ c.args.rest.now _ c.requires.rest c.requires.chunk c.sum_at.ensures c.count_before.ensures c.body_of-body.ensures c.if-body-own.false in
-    subst (λ (n : ℕ). c.args.from < n) (sym told.size) c.requires.begin
+    let known = blocks_known c.args.count c.args.chunks c.args.chunk _ _ c.args.rest.now _ c.requires.rest c.requires.chunk c.sum_at.ensures c.count_before.ensures c.body_of-body.ensures c.if-body-own.false in
+    subst (λ (n : ℕ). c.args.from < n) (sym known.size) c.requires.begin
 
 pub unpack_blocks_from-requires-clause-within : goal.unpack_blocks_from-requires-clause-within
 unpack_blocks_from-requires-clause-within c =
-    let told = blocks_told c.args.count c.args.chunks c.args.chunk _ _ c.args.rest.now _ c.requires.rest c.requires.chunk c.sum_at.ensures c.count_before.ensures c.body_of-body.ensures c.if-body-own.false in
-    subst (λ (n : ℕ). c.args.from + length c.args.out.now ≤ n) (sym told.size) c.requires.within
+    let known = blocks_known c.args.count c.args.chunks c.args.chunk _ _ c.args.rest.now _ c.requires.rest c.requires.chunk c.sum_at.ensures c.count_before.ensures c.body_of-body.ensures c.if-body-own.false in
+    subst (λ (n : ℕ). c.args.from + length c.args.out.now ≤ n) (sym known.size) c.requires.within
 
 pub returns : goal.returns
 returns c =
     let n : ℕ = length c.args.out.now in
-    let told = blocks_told c.args.count c.args.chunks c.args.chunk _ _ c.args.rest.now _ c.requires.rest c.requires.chunk c.sum_at.ensures c.count_before.ensures c.body_of-body.ensures c.if-body-own.false in
+    let known = blocks_known c.args.count c.args.chunks c.args.chunk _ _ c.args.rest.now _ c.requires.rest c.requires.chunk c.sum_at.ensures c.count_before.ensures c.body_of-body.ensures c.if-body-own.false in
     c.unpack_blocks_from.ensures
-    ∙ raised_same (c.key_at.result * 65536) (key_at c.args.rest.now c.args.chunk) _ _ (ap (λ (n : ℕ). n * 65536) c.key_at.ensures) (ap (λ (l : List ℕ). take n (drop c.args.from l)) told.read)
+    ∙ raised_same (c.key_at.result * 65536) (key_at c.args.rest.now c.args.chunk) _ _ (ap (λ (n : ℕ). n * 65536) c.key_at.ensures) (ap (λ (l : List ℕ). take n (drop c.args.from l)) known.read)

@@ -3,7 +3,7 @@ use Rattle.std.proofs.Common.{◌++◌, ℕ, List, drop, ap, ◌∙◌, arith, r
 use Rattle.std.proofs.lemmas.List.{length-take-le}
 use Rattle.bitpack_sets.proofs.EncodeLaws.{accepted}
 use Rattle.bitpack_sets.proofs.encoding.encode_to.Goals as goal
-use Rattle.bitpack_sets.specs.Sets.{text}
+use Rattle.bitpack_sets.specs.Sets.{encoding}
 
 pub returns-then-bytes-len : goal.returns-then-bytes-len
 returns-then-bytes-len c =
@@ -28,7 +28,7 @@ returns c =
     record {
       set = c.in_ok-test_ids.ensures.set;
       len = c.measure-measured.ensures.len_is;
-      ok = ap (λ (l : List ℕ). l ++ drop len old) c.write_set.ensures ∙ ap (λ n. text ids ++ drop n old) c.measure-measured.ensures.len_is;
+      ok = ap (λ (l : List ℕ). l ++ drop len old) c.write_set.ensures ∙ ap (λ n. encoding ids ++ drop n old) c.measure-measured.ensures.len_is;
       fault = accepted ids _ c.in_ok-test_ids.ensures.fault tt;
       room = search rules;
       unchanged = search rules;

@@ -1,4 +1,4 @@
--- The ids are a set, whose text is measured.
+-- The ids are a set, whose encoding is measured.
 use Rattle.std.proofs.Common.{refl}
 use Rattle.bitpack_sets.proofs.EncodeLaws.{accepted}
 use Rattle.bitpack_sets.proofs.encoding.encoded_len.Goals as goal

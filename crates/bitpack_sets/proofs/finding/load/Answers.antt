@@ -12,6 +12,6 @@ load-requires-clause-highs c = subst (IsRising 0 256) (sym c.all_highs.ensures) 
 pub returns : goal.returns
 returns c = λ x h.
     let small = c.requires in
-    c.span-place.ensures.passed x (omega arith)
-    ∙ c.span-place.ensures.own x h
+    c.span-position.ensures.passed x (omega arith)
+    ∙ c.span-position.ensures.own x h
     ∙ sym (c.load.ensures (x % 65536) (omega arith) (ap (has (x % 65536 / 256)) c.all_highs.ensures ∙ has_all (x % 65536 / 256) 0 256 (omega arith) (omega arith)))

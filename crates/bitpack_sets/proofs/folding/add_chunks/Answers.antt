@@ -2,7 +2,7 @@
 use Rattle.std.proofs.Common.{◌+◌, ◌*◌, ℕ, Bool, List, [], get_or, ap, sym, ◌∙◌, arith}
 use Rattle.std.proofs.lemmas.List.{get_or-set_other, length-set}
 use Rattle.bitpack_sets.specs.Chunks.{ids_from, lows_between}
-use Rattle.bitpack_sets.specs.Folds.{found, joined, marked}
+use Rattle.bitpack_sets.specs.Folds.{found, has_number, joined}
 use Rattle.bitpack_sets.specs.Reads.{has}
 use Rattle.bitpack_sets.proofs.KeysLaws.{done_more}
 use Rattle.bitpack_sets.proofs.folding.add_chunks.Goals as goal
@@ -22,9 +22,9 @@ loop-k-preserved c =
         highs_long = length-set c.loop-k.highs c.loop-k.k _ ∙ inv.highs_long;
         words_long = length-set c.loop-k.words c.loop-k.k _ ∙ inv.words_long;
         done = done_more c.args.takes c.args.operation c.loop-k.highs c.loop-k.words c.args.highs.now c.args.words.now w.take_chunk.new.highs w.take_chunk.new.words
-            (ids_from c.chunks-chunks.result 0) (lows_between c.chunks-chunks.result c.loop-k.place c.end-end.result) c.args.base c.loop-k.k (omega arith) (omega arith) inv.done
+            (ids_from c.chunks-chunks.result 0) (lows_between c.chunks-chunks.result c.loop-k.position c.end-end.result) c.args.base c.loop-k.k (omega arith) (omega arith) inv.done
             (inv.highs_rest c.loop-k.k (omega arith)) (inv.words_rest c.loop-k.k (omega arith))
-            (λ x h. w.take_chunk.ensures x h ∙ ap (λ (b : Bool). joined b c.args.operation (marked (get_or c.loop-k.highs c.loop-k.k []) (get_or c.loop-k.words c.loop-k.k []) x) (has x (lows_between c.chunks-chunks.result c.loop-k.place c.end-end.result))) (sym w.if-takes.true)) (λ x e. inv.ids x (omega arith) ∙ c.end-end.ensures.own x e);
+            (λ x h. w.take_chunk.ensures x h ∙ ap (λ (b : Bool). joined b c.args.operation (has_number (get_or c.loop-k.highs c.loop-k.k []) (get_or c.loop-k.words c.loop-k.k []) x) (has x (lows_between c.chunks-chunks.result c.loop-k.position c.end-end.result))) (sym w.if-takes.true)) (λ x e. inv.ids x (omega arith) ∙ c.end-end.ensures.own x e);
         highs_rest = λ j h. get_or-set_other c.loop-k.highs c.loop-k.k j _ [] (λ e. omega arith) ∙ inv.highs_rest j (omega arith);
         words_rest = λ j h. get_or-set_other c.loop-k.words c.loop-k.k j _ [] (λ e. omega arith) ∙ inv.words_rest j (omega arith);
       })
@@ -35,9 +35,9 @@ loop-k-preserved c =
         highs_long = length-set c.loop-k.highs c.loop-k.k _ ∙ inv.highs_long;
         words_long = length-set c.loop-k.words c.loop-k.k _ ∙ inv.words_long;
         done = done_more c.args.takes c.args.operation c.loop-k.highs c.loop-k.words c.args.highs.now c.args.words.now w.add_chunk.new.highs w.add_chunk.new.words
-            (ids_from c.chunks-chunks.result 0) (lows_between c.chunks-chunks.result c.loop-k.place c.end-end.result) c.args.base c.loop-k.k (omega arith) (omega arith) inv.done
+            (ids_from c.chunks-chunks.result 0) (lows_between c.chunks-chunks.result c.loop-k.position c.end-end.result) c.args.base c.loop-k.k (omega arith) (omega arith) inv.done
             (inv.highs_rest c.loop-k.k (omega arith)) (inv.words_rest c.loop-k.k (omega arith))
-            (λ x h. w.add_chunk.ensures x h ∙ ap (λ (b : Bool). joined b c.args.operation (marked (get_or c.loop-k.highs c.loop-k.k []) (get_or c.loop-k.words c.loop-k.k []) x) (has x (lows_between c.chunks-chunks.result c.loop-k.place c.end-end.result))) (sym w.if-takes.false)) (λ x e. inv.ids x (omega arith) ∙ c.end-end.ensures.own x e);
+            (λ x h. w.add_chunk.ensures x h ∙ ap (λ (b : Bool). joined b c.args.operation (has_number (get_or c.loop-k.highs c.loop-k.k []) (get_or c.loop-k.words c.loop-k.k []) x) (has x (lows_between c.chunks-chunks.result c.loop-k.position c.end-end.result))) (sym w.if-takes.false)) (λ x e. inv.ids x (omega arith) ∙ c.end-end.ensures.own x e);
         highs_rest = λ j h. get_or-set_other c.loop-k.highs c.loop-k.k j _ [] (λ e. omega arith) ∙ inv.highs_rest j (omega arith);
         words_rest = λ j h. get_or-set_other c.loop-k.words c.loop-k.k j _ [] (λ e. omega arith) ∙ inv.words_rest j (omega arith);
       })

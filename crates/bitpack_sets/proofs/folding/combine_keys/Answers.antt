@@ -3,7 +3,7 @@ use Rattle.std.proofs.Common.{◌≡◌, ◌+◌, ◌*◌, ◌/◌, ◌<◌, ℕ
 use Rattle.std.proofs.lemmas.List.{length-map}
 use Rattle.bitpack_sets.specs.Folds.{swapped}
 use Rattle.bitpack_sets.specs.Opened.{ids}
-use Rattle.bitpack_sets.specs.Operations.{folded, holds}
+use Rattle.bitpack_sets.specs.Operations.{apply, folded}
 use Rattle.bitpack_sets.specs.Reads.{has}
 use Rattle.bitpack_sets.proofs.FoldLaws.{all_taken, first_taken, next_taken, set_ids, swapped_other, swapped_same}
 use Rattle.bitpack_sets.proofs.folding.combine_keys.Goals as goal
@@ -48,7 +48,7 @@ loop-i-preserved g c =
       most = elim c.key-next.ensures.either [ inl e ↦ (let most = inv.most in omega arith) | inr e ↦ (let most = c.add-own.ensures.most in omega arith) ];
       own = λ i small.
           c.add-own.ensures.own i small
-          ∙ ap (λ (b : Bool). holds c.args.operation b (has (c.args.base * 65536 + i) (ids c.as_set-in-loop-i.result))) (inv.own i small)
+          ∙ ap (λ (b : Bool). apply c.args.operation b (has (c.args.base * 65536 + i) (ids c.as_set-in-loop-i.result))) (inv.own i small)
           ∙ sym (next_taken c.args.operation (c.args.base * 65536 + i) c.args.first c.loop-i.i all (ids c.as_set-in-loop-i.result) (omega arith) (omega arith) own);
       none = λ x least below.
           next_taken c.args.operation x c.args.first c.loop-i.i all (ids c.as_set-in-loop-i.result) (omega arith) (omega arith) own

@@ -1,7 +1,7 @@
 -- The bits of the high bytes that are listed are combined, if there are any.
 use Rattle.std.proofs.Common.{◌/◌, ap, sym, ◌∙◌, arith}
 use Rattle.std.proofs.lemmas.Bool.{false≢true}
-use Rattle.bitpack_sets.specs.Operations.{holds}
+use Rattle.bitpack_sets.specs.Operations.{apply}
 use Rattle.bitpack_sets.proofs.AnswerLaws.{listed_has, listed_rise}
 use Rattle.bitpack_sets.proofs.FoldLaws.{none_listed}
 use Rattle.bitpack_sets.proofs.folding.combine_words.Goals as goal
@@ -18,8 +18,8 @@ returns-then-count-eq0-clause-own c x small there =
 
 pub returns-clause-own : goal.returns-clause-own
 returns-clause-own c x small there =
-    let among = listed_has _ _ (x / 256) c.unpack_bits-count.ensures.values (omega arith) ∙ there in
-    c.combine.ensures.own x small among ∙ ap (holds c.args.operation _) (c.load.ensures x small among)
+    let member = listed_has _ _ (x / 256) c.unpack_bits-count.ensures.values (omega arith) ∙ there in
+    c.combine.ensures.own x small member ∙ ap (apply c.args.operation _) (c.load.ensures x small member)
 
 pub returns-clause-rest : goal.returns-clause-rest
 returns-clause-rest c x small none = c.combine.ensures.rest x small (listed_has _ _ (x / 256) c.unpack_bits-count.ensures.values (omega arith) ∙ none)

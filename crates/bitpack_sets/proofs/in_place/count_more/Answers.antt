@@ -3,7 +3,7 @@ use Rattle.bitpack_sets.specs.Opened.{ids}
 use Rattle.bitpack_sets.specs.Sets.{IsRising}
 use Rattle.bitpack_sets.proofs.ArrayLaws.{rises_from}
 use Rattle.bitpack_sets.proofs.RefusalLaws.{each_below}
-use Rattle.bitpack_sets.proofs.TextLaws.{ids_are_read}
+use Rattle.bitpack_sets.proofs.EncodingLaws.{ids_are_read}
 use Rattle.bitpack_sets.proofs.UnitedLaws.{shared_few, union_count}
 use Rattle.bitpack_sets.proofs.in_place.count_more.Goals as goal
 

@@ -1,4 +1,4 @@
-use Rattle.bitpack_sets.proofs.PlacedLaws.{none_moved, one_moved}
+use Rattle.bitpack_sets.proofs.RetainedLaws.{none_moved, one_moved}
 use Rattle.bitpack_sets.proofs.in_place.move_below.Goals as goal
 
 pub loop-moved-init : goal.loop-moved-init

@@ -1,5 +1,5 @@
 use Rattle.std.proofs.Common.{◌+◌, ◌-◌, length}
-use Rattle.bitpack_sets.proofs.PlacedLaws.{IsMoved}
+use Rattle.bitpack_sets.proofs.RetainedLaws.{IsMoved}
 use Rattle.bitpack_sets.proofs.in_place.move_below.Given as goal
 
 abbrev pub invariant-loop-moved : goal.invariant-loop-moved

@@ -3,8 +3,8 @@ use mir.Val.{bool_byte}
 use Rattle.std.proofs.lemmas.List.{length-set, take-append-drop}
 use Rattle.bitpack_sets.specs.Opened.{ids}
 use Rattle.bitpack_sets.proofs.StepLaws.{IsWritten, step}
-use Rattle.bitpack_sets.proofs.TextLaws.{ids_are_read}
-use Rattle.bitpack_sets.proofs.UnitedLaws.{IsUniting, begun, not_read, united}
+use Rattle.bitpack_sets.proofs.EncodingLaws.{ids_are_read}
+use Rattle.bitpack_sets.proofs.UnitedLaws.{IsUniting, not_read, started, united}
 use Rattle.bitpack_sets.proofs.in_place.unite.Goals as goal
 
 pub loop-id-init : goal.loop-id-init
@@ -15,7 +15,7 @@ loop-id-init c =
     record {
       so =
           subst (λ (left : List ℕ). IsUniting own (ids set) [] own left 0 c.args.start) (sym c.iter-left.ensures)
-          (begun own (ids set) c.args.start c.requires.increasing rising c.requires.room);
+          (started own (ids set) c.args.start c.requires.increasing rising c.requires.room);
       within = c.requires.within;
     }
 

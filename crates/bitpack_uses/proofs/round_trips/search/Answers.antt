@@ -10,16 +10,16 @@ use Rattle.bitpack_uses.proofs.round_trips.search.Goals as goal
 pub seek-requires : goal.seek-requires
 seek-requires g c = λ plain.
     let written = c.in_ok-encode.ensures.ok in
-    let text : c.encode.new.out.items ≡ written.0 = rw c.new-text.ensures.items at written.3 in
-    let same = c.in_ok-list.ensures.only lists.Sorted c.args.values.now (rw (c.deref.ensures.value, text) written.2) in
+    let encoding : c.encode.new.out.items ≡ written.0 = rw c.new-encoding.ensures.items at written.3 in
+    let same = c.in_ok-list.ensures.only lists.Sorted c.args.values.now (rw (c.deref.ensures.value, encoding) written.2) in
     let other : lists.Sorted ≡ lists.Plain = sym same.0 ∙ plain in
     absurd cc
 
 pub returns-clause-first : goal.returns-clause-first
 returns-clause-first g c =
     let written = c.in_ok-encode.ensures.ok in
-    let text : c.encode.new.out.items ≡ written.0 = rw c.new-text.ensures.items at written.3 in
-    let same = c.in_ok-list.ensures.only lists.Sorted c.args.values.now (rw (c.deref.ensures.value, text) written.2) in
+    let encoding : c.encode.new.out.items ≡ written.0 = rw c.new-encoding.ensures.items at written.3 in
+    let same = c.in_ok-list.ensures.only lists.Sorted c.args.values.now (rw (c.deref.ensures.value, encoding) written.2) in
     c.seek.ensures.found ∙ ap (λ values. first_at_least values c.args.target) same.1
 
 pub returns-clause-fault : goal.returns-clause-fault
@@ -35,7 +35,7 @@ returns-in_err-encode-clause-fault g c =
 pub returns-in_err-list-clause-fault : goal.returns-in_err-list-clause-fault
 returns-in_err-list-clause-fault g c =
     let written = c.in_ok-encode.ensures.ok in
-    let text : c.encode.new.out.items ≡ written.0 = rw c.new-text.ensures.items at written.3 in
+    let encoding : c.encode.new.out.items ≡ written.0 = rw c.new-encoding.ensures.items at written.3 in
     let none = (no_fault2 g.P.BitPacker.lanes written.0 g.met.P.BitPacker.some_lanes written.1).1 (lists.Sorted, c.args.values.now, written.2) in
-    let clash : None ≡ Some c.in_err-list.field-0.0 = sym none ∙ rw (c.deref.ensures.value, text) at c.in_err-list.ensures.fault in
+    let clash : None ≡ Some c.in_err-list.field-0.0 = sym none ∙ rw (c.deref.ensures.value, encoding) at c.in_err-list.ensures.fault in
     absurd cc

@@ -6,15 +6,15 @@
 use super::lists::is_written;
 use super::walk::first_fault;
 use crate::tests::calls::decode1;
-use crate::tests::checks::{holds, kept_values, one_value, push_bytes, same_fault};
+use crate::tests::checks::{is_true, one_value, push_bytes, same_fault, unchanged_values};
 use bitpack::{ListError, ListKind};
 use bitpacking::{BitPacker, BitPacker1x, BitPacker4x, BitPacker8x};
 use std::alloc::Global;
 use std::process::Abort;
 
 /// The walk over the bytes finds this fault first, or none.
-fn has_fault<P: BitPacker>(rt: &impl Abort, text: &[u8], fault: Option<ListError>) {
-    same_fault(rt, first_fault::<P>(text), fault, text);
+fn has_fault<P: BitPacker>(rt: &impl Abort, encoding: &[u8], fault: Option<ListError>) {
+    same_fault(rt, first_fault::<P>(encoding), fault, encoding);
 }
 
 /// The walk finds no fault in the encoded list of the values after the 7.
@@ -24,23 +24,23 @@ fn is_of_values<P: BitPacker>(
     packer: &P,
     kind: ListKind,
     values: &[u32],
-    text: &[u8],
+    encoding: &[u8],
 ) {
-    has_fault::<P>(rt, text, None);
-    holds(rt, values.first() == Some(&7), "the first value stays");
+    has_fault::<P>(rt, encoding, None);
+    is_true(rt, values.first() == Some(&7), "the first value stays");
     let values = values.get(1..).unwrap_or(&[]);
-    is_written(rt, alloc, packer, kind, values, text);
+    is_written(rt, alloc, packer, kind, values, encoding);
 }
 
 /// The bytes open, and encode the values that come out; or they are refused with their first fault, and the vector is unchanged.
-fn opens_or_is_refused<P: BitPacker>(rt: &impl Abort, alloc: Global, packer: &P, text: &[u8]) {
+fn opens_or_is_refused<P: BitPacker>(rt: &impl Abort, alloc: Global, packer: &P, encoding: &[u8]) {
     let mut values = one_value(rt, alloc, 7);
     let room = values.capacity();
-    match decode1(packer, text, &mut values) {
-        Ok(kind) => is_of_values(rt, alloc, packer, kind, &values, text),
+    match decode1(packer, encoding, &mut values) {
+        Ok(kind) => is_of_values(rt, alloc, packer, kind, &values, encoding),
         Err(error) => {
-            has_fault::<P>(rt, text, Some(error));
-            kept_values(rt, &values, 7, room);
+            has_fault::<P>(rt, encoding, Some(error));
+            unchanged_values(rt, &values, 7, room);
         }
     }
 }
@@ -50,64 +50,64 @@ fn bits_of_byte<P: BitPacker>(
     rt: &impl Abort,
     alloc: Global,
     packer: &P,
-    text: &mut Vec<u8>,
+    encoding: &mut Vec<u8>,
     index: usize,
 ) {
     for bit in 0..8u32 {
-        change(text, index, 1 << bit);
-        opens_or_is_refused(rt, alloc, packer, text);
-        change(text, index, 1 << bit);
+        change(encoding, index, 1 << bit);
+        opens_or_is_refused(rt, alloc, packer, encoding);
+        change(encoding, index, 1 << bit);
     }
 }
 
 /// Changes these bits of a byte.
-fn change(text: &mut Vec<u8>, index: usize, bits: u8) {
-    if let Some(byte) = text.get_mut(index) {
+fn change(encoding: &mut Vec<u8>, index: usize, bits: u8) {
+    if let Some(byte) = encoding.get_mut(index) {
         *byte ^= bits;
     }
 }
 
 /// The list opens. Each of its bits is changed in turn, and each proper beginning is Short to the walk too.
-fn every_bit<P: BitPacker>(rt: &impl Abort, alloc: Global, packer: &P, text: &[u8]) {
-    has_fault::<P>(rt, text, None);
-    opens_or_is_refused(rt, alloc, packer, text);
+fn every_bit<P: BitPacker>(rt: &impl Abort, alloc: Global, packer: &P, encoding: &[u8]) {
+    has_fault::<P>(rt, encoding, None);
+    opens_or_is_refused(rt, alloc, packer, encoding);
     let mut changed = Vec::new(alloc);
-    push_bytes(rt, &mut changed, text);
-    for index in 0..text.len() {
-        opens_or_is_refused(rt, alloc, packer, &text[..index]);
+    push_bytes(rt, &mut changed, encoding);
+    for index in 0..encoding.len() {
+        opens_or_is_refused(rt, alloc, packer, &encoding[..index]);
         bits_of_byte(rt, alloc, packer, &mut changed, index);
     }
 }
 
 /// Appends a byte `count` times.
-fn push_byte(rt: &impl Abort, text: &mut Vec<u8>, byte: u8, count: usize) {
+fn push_byte(rt: &impl Abort, encoding: &mut Vec<u8>, byte: u8, count: usize) {
     for _ in 0..count {
-        push_bytes(rt, text, &[byte]);
+        push_bytes(rt, encoding, &[byte]);
     }
 }
 
 /// Two blocks and a tail of two values. The codes of the first block are ones. Those of the second are zeros but for the last
 /// one, which is 4: its bit is the last of the body, and with it changed the width 3 is loose.
 fn two_blocks<P: BitPacker>(rt: &impl Abort, alloc: Global, header: [u8; 7]) -> Vec<u8> {
-    let mut text = Vec::new(alloc);
-    push_bytes(rt, &mut text, &header);
-    push_bytes(rt, &mut text, &[1]);
-    push_byte(rt, &mut text, 0xff, P::BLOCK_LEN / 8);
-    push_bytes(rt, &mut text, &[3]);
-    push_byte(rt, &mut text, 0, P::BLOCK_LEN / 8 * 3 - 1);
+    let mut encoding = Vec::new(alloc);
+    push_bytes(rt, &mut encoding, &header);
+    push_bytes(rt, &mut encoding, &[1]);
+    push_byte(rt, &mut encoding, 0xff, P::BLOCK_LEN / 8);
+    push_bytes(rt, &mut encoding, &[3]);
+    push_byte(rt, &mut encoding, 0, P::BLOCK_LEN / 8 * 3 - 1);
     let tail = [0x80, 0, 0, 1, 0, 0xff, 0xff, 0xff, 0xff];
-    push_bytes(rt, &mut text, &tail);
-    text
+    push_bytes(rt, &mut encoding, &tail);
+    encoding
 }
 
 fn bits_of_two_blocks<P: BitPacker>(rt: &impl Abort, alloc: Global, packer: &P, header: [u8; 7]) {
-    let text = two_blocks::<P>(rt, alloc, header);
-    every_bit(rt, alloc, packer, &text);
+    let encoding = two_blocks::<P>(rt, alloc, header);
+    every_bit(rt, alloc, packer, &encoding);
 }
 
 #[test]
-fn bits_of_short_texts(rt: HostRuntime) {
-    let texts: [&[u8]; 4] = [
+fn bits_of_short_encodings(rt: HostRuntime) {
+    let encodings: [&[u8]; 4] = [
         &[1, 0, 1, 0, 0, 0, 0],
         &[1, 0, 1, 1, 0, 0, 0, 5, 0, 0, 0],
         &[1, 2, 1, 0x21, 0, 0, 0, 0, 0x20, 0, 0, 0],
@@ -116,8 +116,8 @@ fn bits_of_short_texts(rt: HostRuntime) {
             0xaa, 0xaa, 0xaa,
         ],
     ];
-    for text in texts {
-        every_bit(&rt, rt.alloc(), &BitPacker1x::new(), text);
+    for encoding in encodings {
+        every_bit(&rt, rt.alloc(), &BitPacker1x::new(), encoding);
     }
 }
 

@@ -3,7 +3,7 @@
 
 use super::list2::thirty_three;
 use super::seek::{COUNTED, SEVENS, TWO_STEPS, rising};
-use crate::tests::calls::{encode2, intersect_texts};
+use crate::tests::calls::{encode2, intersect_encodings};
 use crate::tests::checks::{
     Numbers, appended_values, one_value, push, push_steps, steps, succeeds,
 };
@@ -12,28 +12,28 @@ use bitpacking::{BitPacker, BitPacker1x, BitPacker4x, BitPacker8x};
 use std::alloc::Global;
 use std::process::Abort;
 
-/// `intersect_texts` returned this.
+/// `intersect_encodings` returned this.
 fn returned(
     rt: &impl Abort,
     found: Option<Result<(), ListError>>,
     expected: Option<Result<(), ListError>>,
-    text: &[u8],
+    encoding: &[u8],
     other: &[u8],
 ) {
-    assert_eq!(rt; found, expected, "{text:?} and {other:?}");
+    assert_eq!(rt; found, expected, "{encoding:?} and {other:?}");
 }
 
 /// What two lists share is appended, and what was in the vector is unchanged.
-fn texts_share<P: BitPacker, Q: BitPacker>(
+fn encodings_share<P: BitPacker, Q: BitPacker>(
     rt: &impl Abort,
     alloc: Global,
-    (packer, text): (&P, &[u8]),
-    (other_packer, other_text): (&Q, &[u8]),
+    (packer, encoding): (&P, &[u8]),
+    (other_packer, other_encoding): (&Q, &[u8]),
     shared: &[u32],
 ) {
     let mut out = one_value(rt, alloc, 9);
-    let outcome = intersect_texts((packer, text), (other_packer, other_text), &mut out);
-    returned(rt, outcome, Some(Ok(())), text, other_text);
+    let outcome = intersect_encodings((packer, encoding), (other_packer, other_encoding), &mut out);
+    returned(rt, outcome, Some(Ok(())), encoding, other_encoding);
     appended_values(rt, &out, 9, shared);
 }
 
@@ -45,9 +45,9 @@ fn packed<P: BitPacker>(
     kind: ListKind,
     values: &[u32],
 ) -> Vec<u8> {
-    let mut text = Vec::new(alloc);
-    succeeds(rt, encode2(packer, kind, values, &mut text), &[]);
-    text
+    let mut encoding = Vec::new(alloc);
+    succeeds(rt, encode2(packer, kind, values, &mut encoding), &[]);
+    encoding
 }
 
 /// The lists are packed, and what they share is appended.
@@ -58,13 +58,13 @@ fn lists_share<P: BitPacker, Q: BitPacker>(
     (other_packer, other_kind, others): (&Q, ListKind, &[u32]),
     shared: &[u32],
 ) {
-    let text = packed(rt, alloc, packer, kind, values);
-    let other_text = packed(rt, alloc, other_packer, other_kind, others);
-    texts_share(
+    let encoding = packed(rt, alloc, packer, kind, values);
+    let other_encoding = packed(rt, alloc, other_packer, other_kind, others);
+    encodings_share(
         rt,
         alloc,
-        (packer, &text),
-        (other_packer, &other_text),
+        (packer, &encoding),
+        (other_packer, &other_encoding),
         shared,
     );
 }
@@ -72,8 +72,8 @@ fn lists_share<P: BitPacker, Q: BitPacker>(
 /// Pairs of lists of one lane share these values.
 fn pairs_share(rt: &impl Abort, alloc: Global, cases: &[(&[u8], &[u8], &[u32])]) {
     let packer = BitPacker1x::new();
-    for (text, other, shared) in cases {
-        texts_share(rt, alloc, (&packer, text), (&packer, other), shared);
+    for (encoding, other, shared) in cases {
+        encodings_share(rt, alloc, (&packer, encoding), (&packer, other), shared);
     }
 }
 

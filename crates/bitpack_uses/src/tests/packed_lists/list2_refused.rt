@@ -2,7 +2,7 @@
 
 use super::list2::{are_refused, is_refused, thirty_three};
 use crate::tests::calls::encode2;
-use crate::tests::checks::{kept_bytes, nine, returns, succeeds};
+use crate::tests::checks::{nine, returns, succeeds, unchanged_bytes};
 use bitpack::{ListError, ListKind};
 use bitpacking::{BitPacker, BitPacker1x};
 use std::alloc::Global;
@@ -91,8 +91,8 @@ fn parts_refused(rt: &impl Abort) {
         (thirty_three(0, 0, 30, 32), ListError::BadLast(0)),
         (thirty_three(0, 0, 31, 31), ListError::NotSorted(32)),
     ];
-    for (text, error) in cases {
-        is_refused(rt, &BitPacker1x::new(), &text, error);
+    for (encoding, error) in cases {
+        is_refused(rt, &BitPacker1x::new(), &encoding, error);
     }
 }
 
@@ -125,14 +125,14 @@ fn is_unsorted(rt: &impl Abort, alloc: Global, kind: ListKind, values: &[u32], p
     let room = out.capacity();
     let outcome = encode2(&BitPacker1x::new(), kind, values, &mut out);
     returns(rt, outcome, Err(ListError::NotSorted(position)), &[]);
-    kept_bytes(rt, &out, room);
+    unchanged_bytes(rt, &out, room);
 }
 
 /// 64 times 7 are sorted.
 fn sevens_are_sorted(rt: &impl Abort, alloc: Global) {
-    let mut text = Vec::new(alloc);
+    let mut encoding = Vec::new(alloc);
     let kind = ListKind::Sorted;
-    let outcome = encode2(&BitPacker1x::new(), kind, &[7; 64], &mut text);
+    let outcome = encode2(&BitPacker1x::new(), kind, &[7; 64], &mut encoding);
     succeeds(rt, outcome, &[]);
 }
 

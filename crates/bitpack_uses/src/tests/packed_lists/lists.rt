@@ -3,8 +3,8 @@
 
 use crate::tests::calls::{decode1, encode1};
 use crate::tests::checks::{
-    appended_bytes, appended_values, kept_values, nine, one_value, push, push_bytes, push_steps,
-    same_values, says, steps, succeeds, with_zero,
+    appended_bytes, appended_values, nine, one_value, push, push_bytes, push_steps, same_values,
+    says, steps, succeeds, unchanged_values, with_zero,
 };
 use bitpack::{ListError, ListKind};
 use bitpacking::{BitPacker, BitPacker1x, BitPacker4x, BitPacker8x};
@@ -16,9 +16,9 @@ fn decodes(
     rt: &impl Abort,
     found: Result<ListKind, ListError>,
     expected: Result<ListKind, ListError>,
-    text: &[u8],
+    encoding: &[u8],
 ) {
-    assert_eq!(rt; found, expected, "{text:?}");
+    assert_eq!(rt; found, expected, "{encoding:?}");
 }
 
 /// The values have these bytes. What the vector held before comes before them.
@@ -28,11 +28,11 @@ pub(super) fn is_written<P: BitPacker>(
     packer: &P,
     kind: ListKind,
     values: &[u32],
-    text: &[u8],
+    encoding: &[u8],
 ) {
     let mut written = nine(rt, alloc);
-    succeeds(rt, encode1(packer, kind, values, &mut written), text);
-    appended_bytes(rt, &written, text);
+    succeeds(rt, encode1(packer, kind, values, &mut written), encoding);
+    appended_bytes(rt, &written, encoding);
 }
 
 /// The bytes have these values. What the vector held before comes before them.
@@ -42,29 +42,29 @@ fn is_read<P: BitPacker>(
     packer: &P,
     kind: ListKind,
     values: &[u32],
-    text: &[u8],
+    encoding: &[u8],
 ) {
     let mut read = one_value(rt, alloc, 7);
-    decodes(rt, decode1(packer, text, &mut read), Ok(kind), text);
+    decodes(rt, decode1(packer, encoding, &mut read), Ok(kind), encoding);
     appended_values(rt, &read, 7, values);
 }
 
 /// The values have these bytes, and the bytes these values. Each proper beginning of the bytes is refused, and so are the bytes
 /// with one more.
-fn is_text<P: BitPacker>(
+fn is_encoding<P: BitPacker>(
     rt: &impl Abort,
     alloc: Global,
     packer: &P,
     kind: ListKind,
     values: &[u32],
-    text: &[u8],
+    encoding: &[u8],
 ) {
-    is_written(rt, alloc, packer, kind, values, text);
-    is_read(rt, alloc, packer, kind, values, text);
-    for end in 0..text.len() {
-        is_refused(rt, alloc, packer, &text[..end], ListError::Short);
+    is_written(rt, alloc, packer, kind, values, encoding);
+    is_read(rt, alloc, packer, kind, values, encoding);
+    for end in 0..encoding.len() {
+        is_refused(rt, alloc, packer, &encoding[..end], ListError::Short);
     }
-    let longer = with_zero(rt, alloc, text);
+    let longer = with_zero(rt, alloc, encoding);
     is_refused(rt, alloc, packer, &longer, ListError::Trailing);
 }
 
@@ -73,13 +73,18 @@ fn is_refused<P: BitPacker>(
     rt: &impl Abort,
     alloc: Global,
     packer: &P,
-    text: &[u8],
+    encoding: &[u8],
     error: ListError,
 ) {
     let mut read = one_value(rt, alloc, 7);
     let room = read.capacity();
-    decodes(rt, decode1(packer, text, &mut read), Err(error), text);
-    kept_values(rt, &read, 7, room);
+    decodes(
+        rt,
+        decode1(packer, encoding, &mut read),
+        Err(error),
+        encoding,
+    );
+    unchanged_values(rt, &read, 7, room);
 }
 
 /// All of these bytes are refused.
@@ -89,41 +94,41 @@ fn are_refused<P: BitPacker>(
     packer: &P,
     cases: &[(&[u8], ListError)],
 ) {
-    for (text, error) in cases {
-        is_refused(rt, alloc, packer, text, *error);
+    for (encoding, error) in cases {
+        is_refused(rt, alloc, packer, encoding, *error);
     }
 }
 
 /// 0 to 32, in one block of width 0 and a tail.
-fn strict_text(rt: &impl Abort, alloc: Global) {
+fn strict_encoding(rt: &impl Abort, alloc: Global) {
     let values = steps(rt, alloc, 0, 1, 33);
-    let text = [1, 2, 1, 0x21, 0, 0, 0, 0, 0x20, 0, 0, 0];
+    let encoding = [1, 2, 1, 0x21, 0, 0, 0, 0, 0x20, 0, 0, 0];
     let kind = ListKind::StrictlySorted;
-    is_text(rt, alloc, &BitPacker1x::new(), kind, &values, &text);
+    is_encoding(rt, alloc, &BitPacker1x::new(), kind, &values, &encoding);
 }
 
 /// 1 to 32, and then 34 to 96 in steps of 2.
-fn sorted_text(rt: &impl Abort, alloc: Global) {
+fn sorted_encoding(rt: &impl Abort, alloc: Global) {
     let mut values = steps(rt, alloc, 1, 1, 32);
     push_steps(rt, &mut values, 34, 2, 32);
-    let text = [
+    let encoding = [
         1, 1, 1, 0x40, 0, 0, 0, 1, 0xff, 0xff, 0xff, 0xff, 2, 0xaa, 0xaa, 0xaa, 0xaa, 0xaa, 0xaa,
         0xaa, 0xaa,
     ];
     let kind = ListKind::Sorted;
-    is_text(rt, alloc, &BitPacker1x::new(), kind, &values, &text);
+    is_encoding(rt, alloc, &BitPacker1x::new(), kind, &values, &encoding);
 }
 
 #[test]
-fn worked_texts(rt: HostRuntime) {
+fn worked_encodings(rt: HostRuntime) {
     let packer = BitPacker1x::new();
     let alloc = rt.alloc();
     let empty = [1, 0, 1, 0, 0, 0, 0];
-    is_text(&rt, alloc, &packer, ListKind::Plain, &[], &empty);
+    is_encoding(&rt, alloc, &packer, ListKind::Plain, &[], &empty);
     let five = [1, 0, 1, 1, 0, 0, 0, 5, 0, 0, 0];
-    is_text(&rt, alloc, &packer, ListKind::Plain, &[5], &five);
-    strict_text(&rt, alloc);
-    sorted_text(&rt, alloc);
+    is_encoding(&rt, alloc, &packer, ListKind::Plain, &[5], &five);
+    strict_encoding(&rt, alloc);
+    sorted_encoding(&rt, alloc);
 }
 
 #[test]
@@ -167,9 +172,9 @@ fn refusals_of_1x(rt: HostRuntime) {
     are_refused(&rt, rt.alloc(), &BitPacker1x::new(), &cases);
 }
 
-fn texts_of_4x<P: BitPacker>(rt: &impl Abort, alloc: Global, packer: &P) {
+fn encodings_of_4x<P: BitPacker>(rt: &impl Abort, alloc: Global, packer: &P) {
     let zeros = [1, 0, 4, 0x80, 0, 0, 0, 0];
-    is_text(rt, alloc, packer, ListKind::Plain, &[0; 128], &zeros);
+    is_encoding(rt, alloc, packer, ListKind::Plain, &[0; 128], &zeros);
     let mut loose = [0; 24];
     loose[..8].copy_from_slice(&[1, 0, 4, 0x80, 0, 0, 0, 1]);
     is_refused(rt, alloc, packer, &loose, ListError::LooseWidth(0, 1));
@@ -177,11 +182,11 @@ fn texts_of_4x<P: BitPacker>(rt: &impl Abort, alloc: Global, packer: &P) {
     is_refused(rt, alloc, packer, &lanes, ListError::WrongLanes(1));
 }
 
-fn texts_of_8x<P: BitPacker>(rt: &impl Abort, alloc: Global, packer: &P) {
+fn encodings_of_8x<P: BitPacker>(rt: &impl Abort, alloc: Global, packer: &P) {
     let promises = [1, 0, 8, 0, 0, 0, 0x10];
     is_refused(rt, alloc, packer, &promises, ListError::Short);
     let zeros = [1, 0, 8, 0, 4, 0, 0, 0, 0, 0, 0];
-    is_text(rt, alloc, packer, ListKind::Plain, &[0; 1024], &zeros);
+    is_encoding(rt, alloc, packer, ListKind::Plain, &[0; 1024], &zeros);
 }
 
 /// Strictly sorted by its header, and 32 times 5: the first code is 5, and the others are -1 modulo 2 ^ 32.
@@ -195,11 +200,11 @@ fn repeated_value(rt: &impl Abort, alloc: Global) {
 }
 
 #[test]
-fn texts_from_anyone(rt: HostRuntime) {
-    texts_of_4x(&rt, rt.alloc(), &BitPacker4x::new());
-    texts_of_4x(&rt, rt.alloc(), &BitPacker4x::scalar());
-    texts_of_8x(&rt, rt.alloc(), &BitPacker8x::new());
-    texts_of_8x(&rt, rt.alloc(), &BitPacker8x::scalar());
+fn encodings_from_anyone(rt: HostRuntime) {
+    encodings_of_4x(&rt, rt.alloc(), &BitPacker4x::new());
+    encodings_of_4x(&rt, rt.alloc(), &BitPacker4x::scalar());
+    encodings_of_8x(&rt, rt.alloc(), &BitPacker8x::new());
+    encodings_of_8x(&rt, rt.alloc(), &BitPacker8x::scalar());
     repeated_value(&rt, rt.alloc());
 }
 
@@ -256,41 +261,41 @@ fn push_tail(rt: &impl Abort, values: &mut Vec<u32>) {
 }
 
 /// Appends the words of a block, each as often as there are lanes.
-pub(super) fn push_words(rt: &impl Abort, text: &mut Vec<u8>, words: &[[u8; 4]], lanes: usize) {
+pub(super) fn push_words(rt: &impl Abort, encoding: &mut Vec<u8>, words: &[[u8; 4]], lanes: usize) {
     for word in words {
-        push_repeated(rt, text, word, lanes);
+        push_repeated(rt, encoding, word, lanes);
     }
 }
 
 /// Appends a word `count` times.
-fn push_repeated(rt: &impl Abort, text: &mut Vec<u8>, word: &[u8], count: usize) {
+fn push_repeated(rt: &impl Abort, encoding: &mut Vec<u8>, word: &[u8], count: usize) {
     for _ in 0..count {
-        push_bytes(rt, text, word);
+        push_bytes(rt, encoding, word);
     }
 }
 
 /// Their bytes. Each lane has one word of width 1, two of width 2 and three of width 3; the bits of the last are `101` again and
 /// again.
-fn three_blocks_text<P: BitPacker>(rt: &impl Abort, alloc: Global, header: [u8; 7]) -> Vec<u8> {
+fn three_blocks_encoding<P: BitPacker>(rt: &impl Abort, alloc: Global, header: [u8; 7]) -> Vec<u8> {
     let lanes = P::BLOCK_LEN / 32;
-    let mut text = Vec::new(alloc);
-    push_bytes(rt, &mut text, &header);
-    push_bytes(rt, &mut text, &[1]);
-    push_words(rt, &mut text, &[[0xff; 4]], lanes);
-    push_bytes(rt, &mut text, &[2]);
-    push_words(rt, &mut text, &[[0xaa; 4]; 2], lanes);
+    let mut encoding = Vec::new(alloc);
+    push_bytes(rt, &mut encoding, &header);
+    push_bytes(rt, &mut encoding, &[1]);
+    push_words(rt, &mut encoding, &[[0xff; 4]], lanes);
+    push_bytes(rt, &mut encoding, &[2]);
+    push_words(rt, &mut encoding, &[[0xaa; 4]; 2], lanes);
     let threes = [
         [0x6d, 0xdb, 0xb6, 0x6d],
         [0xdb, 0xb6, 0x6d, 0xdb],
         [0xb6, 0x6d, 0xdb, 0xb6],
     ];
-    push_bytes(rt, &mut text, &[3]);
-    push_words(rt, &mut text, &threes, lanes);
+    push_bytes(rt, &mut encoding, &[3]);
+    push_words(rt, &mut encoding, &threes, lanes);
     let tail = [
         5, 0, 0, 0, 0xfc, 0xfd, 0xfe, 0xff, 0, 0, 0, 0, 1, 0, 0, 0, 0xff, 0xff, 0xff, 0xff,
     ];
-    push_bytes(rt, &mut text, &tail);
-    text
+    push_bytes(rt, &mut encoding, &tail);
+    encoding
 }
 
 /// Three blocks and a tail in a kind; the header says plain.
@@ -304,8 +309,8 @@ fn of_kind<P: BitPacker>(
     let mut header = header;
     header[1] = byte;
     let values = three_blocks::<P>(rt, alloc, kind);
-    let text = three_blocks_text::<P>(rt, alloc, header);
-    is_text(rt, alloc, packer, kind, &values, &text);
+    let encoding = three_blocks_encoding::<P>(rt, alloc, header);
+    is_encoding(rt, alloc, packer, kind, &values, &encoding);
 }
 
 /// Three blocks and a tail in each kind.
@@ -380,7 +385,7 @@ fn each_refusal_says_what_is_wrong(rt: HostRuntime) {
         ),
         (ListError::Memory, 12, "out of memory"),
     ];
-    for (error, number, text) in cases {
-        says(&rt, rt.alloc(), error, number, text);
+    for (error, number, message) in cases {
+        says(&rt, rt.alloc(), error, number, message);
     }
 }

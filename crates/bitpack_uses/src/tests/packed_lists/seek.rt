@@ -39,17 +39,17 @@ fn list_finds<P: BitPacker>(
 }
 
 /// A search in the list, which is in order, finds this.
-fn finds(rt: &impl Abort, text: &[u8], target: u32, found: Option<(usize, u32)>) {
-    match open(&BitPacker1x::new(), text) {
+fn finds(rt: &impl Abort, encoding: &[u8], target: u32, found: Option<(usize, u32)>) {
+    match open(&BitPacker1x::new(), encoding) {
         Ok(list) => list_finds(rt, &list, target, found),
-        Err(error) => returns(rt, Err(error), Ok(()), text),
+        Err(error) => returns(rt, Err(error), Ok(()), encoding),
     }
 }
 
 /// Each search in the list, which is in order, finds what stands beside its target.
-fn finds_each(rt: &impl Abort, text: &[u8], searches: &[(u32, Option<(usize, u32)>)]) {
+fn finds_each(rt: &impl Abort, encoding: &[u8], searches: &[(u32, Option<(usize, u32)>)]) {
     for (target, found) in searches {
-        finds(rt, text, *target, *found);
+        finds(rt, encoding, *target, *found);
     }
 }
 
@@ -114,11 +114,11 @@ fn is_searched<P: BitPacker>(
     values: &[u32],
     sought: &[u32],
 ) {
-    let mut text = Vec::new(alloc);
-    succeeds(rt, encode2(packer, kind, values, &mut text), &[]);
-    match open(packer, &text) {
+    let mut encoding = Vec::new(alloc);
+    succeeds(rt, encode2(packer, kind, values, &mut encoding), &[]);
+    match open(packer, &encoding) {
         Ok(list) => finds_all(rt, &list, values, sought),
-        Err(error) => returns(rt, Err(error), Ok(()), &text),
+        Err(error) => returns(rt, Err(error), Ok(()), &encoding),
     }
 }
 

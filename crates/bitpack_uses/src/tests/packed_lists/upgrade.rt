@@ -1,9 +1,9 @@
 //! Version 1 lists, converted to version 2. The expected bytes and refusals were worked by hand from the format. None is the
 //! program's own output.
 
-use super::list2::{SHAPES, blocks_of, each_kind, is_list, is_written, text_of, thirty_three};
+use super::list2::{SHAPES, blocks_of, each_kind, encoding_of, is_list, is_written, thirty_three};
 use crate::tests::calls::{encode1, upgrade};
-use crate::tests::checks::{appended_bytes, kept_bytes, nine, returns, succeeds, with_zero};
+use crate::tests::checks::{appended_bytes, nine, returns, succeeds, unchanged_bytes, with_zero};
 use bitpack::{ListError, ListKind};
 use bitpacking::{BitPacker, BitPacker1x, BitPacker4x, BitPacker8x};
 use std::alloc::Global;
@@ -27,7 +27,7 @@ fn is_refused<P: BitPacker>(
     let mut out = nine(rt, alloc);
     let room = out.capacity();
     returns(rt, upgrade(packer, old, &mut out), Err(error), old);
-    kept_bytes(rt, &out, room);
+    unchanged_bytes(rt, &out, room);
 }
 
 /// Each list is refused.
@@ -43,7 +43,7 @@ fn are_refused<P: BitPacker>(
 }
 
 #[test]
-fn worked_texts(rt: HostRuntime) {
+fn worked_encodings(rt: HostRuntime) {
     let cases: [(&[u8], &[u8]); 4] = [
         (&[1, 1, 1, 0, 0, 0, 0], &[2, 1, 1, 0, 0, 0, 0]),
         // A plain list may be in any order.
@@ -177,8 +177,8 @@ fn shapes_of<P: BitPacker>(
 ) {
     for (blocks, tail) in SHAPES {
         let values = blocks_of::<P>(rt, alloc, kind, blocks, tail);
-        let text = text_of::<P>(rt, alloc, byte, blocks, tail, lasts);
-        is_same(rt, alloc, packer, (kind, values.as_slice()), &text);
+        let encoding = encoding_of::<P>(rt, alloc, byte, blocks, tail, lasts);
+        is_same(rt, alloc, packer, (kind, values.as_slice()), &encoding);
     }
 }
 

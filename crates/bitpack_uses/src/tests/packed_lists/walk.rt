@@ -5,8 +5,8 @@ use bitpack::ListError;
 use bitpacking::BitPacker;
 
 /// The first fault of the bytes for this packer, if they have one.
-pub(super) fn first_fault<P: BitPacker>(text: &[u8]) -> Option<ListError> {
-    let [version, kind, lanes, n0, n1, n2, n3, rest @ ..] = text else {
+pub(super) fn first_fault<P: BitPacker>(encoding: &[u8]) -> Option<ListError> {
+    let [version, kind, lanes, n0, n1, n2, n3, rest @ ..] = encoding else {
         return Some(ListError::Short);
     };
     if *version != 1 {

@@ -5,7 +5,7 @@ ghost use Rattle.std.specs.Prelude.{◌≤◌, ◌^◌};
 
 use super::list2::opened;
 use crate::tests::calls::encode2;
-use crate::tests::checks::{kept_bytes, nine, push, push_bytes, returns};
+use crate::tests::checks::{nine, push, push_bytes, returns, unchanged_bytes};
 use bitpack::{ListError, ListKind};
 use bitpacking::{BitPacker, BitPacker1x, BitPacker4x, BitPacker8x};
 use std::alloc::Global;
@@ -22,18 +22,18 @@ fn ones(rt: &impl Abort, alloc: Global, start: [u8; 3], blocks: &[(u8, u32)]) ->
         offset = offset.wrapping_add(*width as u32);
         count = count.wrapping_add(32 * start[2] as u32);
     }
-    let mut text = Vec::new(alloc);
-    push_bytes(rt, &mut text, &start);
-    push_bytes(rt, &mut text, &count.to_le_bytes());
-    push_bytes(rt, &mut text, &entries);
-    push_ones(rt, &mut text, start[2], offset);
-    text
+    let mut encoding = Vec::new(alloc);
+    push_bytes(rt, &mut encoding, &start);
+    push_bytes(rt, &mut encoding, &count.to_le_bytes());
+    push_bytes(rt, &mut encoding, &entries);
+    push_ones(rt, &mut encoding, start[2], offset);
+    encoding
 }
 
 /// Appends bodies of `lanes` lanes with this sum of widths.
-fn push_ones(rt: &impl Abort, text: &mut Vec<u8>, lanes: u8, widths: u32) {
+fn push_ones(rt: &impl Abort, encoding: &mut Vec<u8>, lanes: u8, widths: u32) {
     for _ in 0..lanes as u64 * widths as u64 {
-        push_bytes(rt, text, &[255; 4]);
+        push_bytes(rt, encoding, &[255; 4]);
     }
 }
 
@@ -46,12 +46,12 @@ fn opens<P: BitPacker>(
     blocks: &[(u8, u32)],
     out: Option<usize>,
 ) {
-    let text = ones(rt, alloc, start, blocks);
+    let encoding = ones(rt, alloc, start, blocks);
     let expected = match out {
         Some(position) => Err(ListError::NotSorted(position)),
         None => Ok(()),
     };
-    returns(rt, opened(packer, &text), expected, &text);
+    returns(rt, opened(packer, &encoding), expected, &encoding);
 }
 
 /// Sorted blocks; 2 ^ `width` is 2 ^ 32 over the values of a block.
@@ -145,13 +145,13 @@ fn is_packed<P: BitPacker>(
     (kind, values): (ListKind, &[u32]),
     out: Option<usize>,
 ) {
-    let mut text = nine(rt, alloc);
-    let room = text.capacity();
-    let outcome = encode2(packer, kind, values, &mut text);
+    let mut encoding = nine(rt, alloc);
+    let room = encoding.capacity();
+    let outcome = encode2(packer, kind, values, &mut encoding);
     match out {
         Some(position) => {
             returns(rt, outcome, Err(ListError::NotSorted(position)), &[]);
-            kept_bytes(rt, &text, room);
+            unchanged_bytes(rt, &encoding, room);
         }
         None => returns(rt, outcome, Ok(()), &[]),
     }

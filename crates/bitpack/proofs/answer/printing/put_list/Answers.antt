@@ -3,13 +3,13 @@ use Rattle.std.proofs.Common.{◌≡◌, ℕ, List, ◌∷◌, [], ◌++◌, ap,
 use Rattle.bitpack.specs.Grammar.{list_kind_string}
 use Rattle.bitpack.specs.Answers.{printed_list, printed_values}
 use Rattle.bitpack.specs.Lines.{AppendsBeginning, AppendsBut}
-use Rattle.bitpack.proofs.HeldBytes.{OnErr-by, OnErr-to, OnOk-to, begin-more, but-more, but-part}
+use Rattle.bitpack.proofs.BufferedBytes.{OnErr-by, OnErr-to, OnOk-to, begin-more, but-more, but-part}
 use Rattle.bitpack.proofs.answer.printing.put_list.Goals as goal
 
 -- what is put before the values, and the values
-all_of : (held prefix name values : List ℕ) → prefix ≡ name ++ 32 ∷ [] → (held ++ prefix) ++ values ≡ held ++ (name ++ 32 ∷ values)
-all_of held prefix name values e =
-    append_assoc held prefix values ∙ ap (λ l. held ++ l) (ap (λ l. l ++ values) e ∙ append_assoc name (32 ∷ []) values)
+all_of : (buffered prefix name values : List ℕ) → prefix ≡ name ++ 32 ∷ [] → (buffered ++ prefix) ++ values ≡ buffered ++ (name ++ 32 ∷ values)
+all_of buffered prefix name values e =
+    append_assoc buffered prefix values ∙ ap (λ l. buffered ++ l) (ap (λ l. l ++ values) e ∙ append_assoc name (32 ∷ []) values)
 
 pub returns-in_err-put-clause-err : goal.returns-in_err-put-clause-err
 returns-in_err-put-clause-err g c =

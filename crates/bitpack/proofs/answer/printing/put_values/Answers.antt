@@ -2,7 +2,7 @@
 use Rattle.std.proofs.Common.{◌≡◌, ◌∷◌, ◌++◌, get_or, rules, subst, sym}
 use Rattle.bitpack.specs.Answers.{printed_values}
 use Rattle.bitpack.specs.Lines.{AppendsBeginning}
-use Rattle.bitpack.proofs.HeldBytes.{OnErr-by}
+use Rattle.bitpack.proofs.BufferedBytes.{OnErr-by}
 use Rattle.bitpack.proofs.PutSteps.{comma_part, value_part, value_step, values_part}
 use Rattle.bitpack.proofs.answer.printing.put_values.Goals as goal
 

@@ -1,8 +1,8 @@
--- What was held is written before bytes that there is no room for.
+-- What was buffered is written before bytes that there is no room for.
 use Rattle.std.proofs.Common.{◌++◌, subst, sym}
 use Rattle.std.proofs.KnownBytes.{Appends-trans}
 use Rattle.bitpack.specs.Lines.{AppendsBeginning, AppendsBut}
-use Rattle.bitpack.proofs.HeldBytes.{OnErr-by, OnOk-to, begin-more, but-all}
+use Rattle.bitpack.proofs.BufferedBytes.{OnErr-by, OnOk-to, begin-more, but-all}
 use Rattle.bitpack.proofs.output.Output.put.Goals as goal
 
 pub returns-in_err-write_out-clause-err : goal.returns-in_err-write_out-clause-err

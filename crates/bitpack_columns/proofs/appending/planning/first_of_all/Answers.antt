@@ -1,7 +1,7 @@
 -- A column that has a block begins with its first value.
 use Rattle.std.proofs.Common.{◌<◌, ◌++◌, ◌∙◌, arith}
 use Rattle.bitpack_columns.specs.Opened.{blocks_of}
-use Rattle.bitpack_columns.proofs.KeptLaws.{first_kept}
+use Rattle.bitpack_columns.proofs.CopiedLaws.{first_copied}
 use Rattle.bitpack_columns.proofs.OpenedLaws.{first_is}
 use Rattle.bitpack_columns.proofs.appending.planning.first_of_all.Goals as goal
 
@@ -9,4 +9,4 @@ pub returns : goal.returns
 returns c = λ is.
     let column = c.args.column.now in
     let some : 0 < blocks_of column = omega arith in
-    first_is column is ∙ first_kept column (c.args.filled.now ++ c.args.later.now) some
+    first_is column is ∙ first_copied column (c.args.filled.now ++ c.args.later.now) some

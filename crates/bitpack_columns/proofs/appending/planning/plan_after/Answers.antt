@@ -8,7 +8,7 @@ use Rattle.bitpack_columns.specs.Measured.{AreWidths, IsMeasured, extended, pack
 use Rattle.bitpack_columns.specs.Numbers.{byte_count, greatest}
 use Rattle.bitpack_columns.specs.Opened.{blocks_of, values}
 use Rattle.bitpack_columns.proofs.EncodeLaws.{planned}
-use Rattle.bitpack_columns.proofs.KeptLaws.{extended_long, kept_measured, measured_few}
+use Rattle.bitpack_columns.proofs.CopiedLaws.{copied_measured, extended_long, measured_few}
 use Rattle.bitpack_columns.proofs.SplitLaws.{all_blocks, left_both, tail_back}
 use Rattle.bitpack_columns.proofs.appending.planning.plan_after.Goals as goal
 
@@ -19,9 +19,9 @@ overflow_add-all c =
     let all : List ℕ = extended column packed in
     let most : ℕ = greatest (mark_in column.kind (values column)) (blocks_of column) in
     let measured = c.measure_both-measured.result in
-    let whole = kept_measured column packed c.kept_total.result most c.value_after-before.result measured.total measured.greatest measured.last
-    c.kept_total.ensures refl c.value_after-before.ensures c.measure_both-measured.ensures.measured in
-    let few = measured_few column.kind all (get_or all 0 0) (c.kept_total.result + measured.total) (max most measured.greatest) measured.last c.requires.column whole in
+    let whole = copied_measured column packed c.copied_total.result most c.value_after-before.result measured.total measured.greatest measured.last
+    c.copied_total.ensures refl c.value_after-before.ensures c.measure_both-measured.ensures.measured in
+    let few = measured_few column.kind all (get_or all 0 0) (c.copied_total.result + measured.total) (max most measured.greatest) measured.last c.requires.column whole in
     record { fits = omega (arith, few) }
 
 pub blocks_len-requires-clause-total : goal.blocks_len-requires-clause-total
@@ -31,9 +31,9 @@ blocks_len-requires-clause-total c =
     let all : List ℕ = extended column packed in
     let most : ℕ = greatest (mark_in column.kind (values column)) (blocks_of column) in
     let measured = c.measure_both-measured.result in
-    let whole = kept_measured column packed c.kept_total.result most c.value_after-before.result measured.total measured.greatest measured.last
-    c.kept_total.ensures refl c.value_after-before.ensures c.measure_both-measured.ensures.measured in
-    let few = measured_few column.kind all (get_or all 0 0) (c.kept_total.result + measured.total) (max most measured.greatest) measured.last c.requires.column whole in
+    let whole = copied_measured column packed c.copied_total.result most c.value_after-before.result measured.total measured.greatest measured.last
+    c.copied_total.ensures refl c.value_after-before.ensures c.measure_both-measured.ensures.measured in
+    let few = measured_few column.kind all (get_or all 0 0) (c.copied_total.result + measured.total) (max most measured.greatest) measured.last c.requires.column whole in
     few
 
 pub returns-clause-plan : goal.returns-clause-plan
@@ -48,18 +48,18 @@ returns-clause-plan c =
     let all : List ℕ = extended column packed in
     let first : ℕ = get_or all 0 0 in
     let measured = c.measure_both-measured.result in
-    let total : ℕ = c.kept_total.result + measured.total in
+    let total : ℕ = c.copied_total.result + measured.total in
     let top : c.max.result ≡ max c.front_greatest.result measured.greatest = omega (arith, c.max.ensures) in
     let whole : IsMeasured kind first all total (max c.front_greatest.result measured.greatest) measured.last =
-    kept_measured column packed c.kept_total.result c.front_greatest.result c.value_after-before.result measured.total measured.greatest measured.last
-    c.kept_total.ensures c.front_greatest.ensures c.value_after-before.ensures c.measure_both-measured.ensures.measured in
+    copied_measured column packed c.copied_total.result c.front_greatest.result c.value_after-before.result measured.total measured.greatest measured.last
+    c.copied_total.ensures c.front_greatest.ensures c.value_after-before.ensures c.measure_both-measured.ensures.measured in
     let cached : AreWidths kind (packed_after column packed) packed c.measure_both-measured.new.widths =
     subst (λ (n : ℕ). AreWidths kind n packed c.measure_both-measured.new.widths) c.value_after-before.ensures c.measure_both-measured.ensures.widths in
     let count : length filled + length later ≡ length packed = sym (length-append filled later) in
-    let blocks : c.blocks-kept.result + (length filled + length later) / 128 ≡ length all / 128 =
-    ap (λ (n : ℕ). n + (length filled + length later) / 128) c.blocks-kept.ensures ∙ ap (λ (n : ℕ). k + n / 128) count ∙ sym (all_blocks (values column) packed k le) in
-    let long : length all ≡ 128 * c.blocks-kept.result + (length filled + length later) =
-    extended_long column filled later ∙ ap (λ (n : ℕ). 128 * n + (length filled + length later)) (sym c.blocks-kept.ensures) in
+    let blocks : c.blocks-copied.result + (length filled + length later) / 128 ≡ length all / 128 =
+    ap (λ (n : ℕ). n + (length filled + length later) / 128) c.blocks-copied.ensures ∙ ap (λ (n : ℕ). k + n / 128) count ∙ sym (all_blocks (values column) packed k le) in
+    let long : length all ≡ 128 * c.blocks-copied.result + (length filled + length later) =
+    extended_long column filled later ∙ ap (λ (n : ℕ). 128 * n + (length filled + length later)) (sym c.blocks-copied.ensures) in
     let from : ℕ = 128 * (length later / 128) in
     let left : take (length later - from) (drop from later) ≡ drop (128 * (length all / 128)) all =
     take_rest later from ∙ sym (left_both filled later c.requires.whole) ∙ sym (tail_back (values column) packed k le) in
@@ -69,7 +69,7 @@ returns-clause-plan c =
     c.measure_both-measured.new.widths c.write_header-header_len.new.bytes c.write_tail-tail_len.new.bytes refl
     (subst (λ (n : ℕ). IsMeasured kind first all total n measured.last) (sym top) whole) cached
     in_header (c.write_header-header_len.ensures.header all long (λ is. sym (c.first_of_all-first.ensures is)))
-    in_tail (c.write_tail-tail_len.ensures.tail ∙ ap (tail_after kind (c.blocks-kept.result + (length filled + length later) / 128) measured.last) left
+    in_tail (c.write_tail-tail_len.ensures.tail ∙ ap (tail_after kind (c.blocks-copied.result + (length filled + length later) / 128) measured.last) left
     ∙ ap (λ (b : ℕ). tail_after kind b measured.last (drop (128 * (length all / 128)) all)) blocks)
     (c.blocks_len.ensures.len ∙ ap (λ (b : ℕ). cond (eqb b 0) 0 (1 + (byte_count total + byte_count c.max.result) * b + 16 * total)) blocks)
     refl

@@ -18,7 +18,7 @@ returns-then-is_err c =
       fault = accepted kind all _ (not_refused kind all c.requires.column) refl;
       room = λ none. omega (arith, full, long);
       unchanged = search rules;
-      kept = search rules;
+      capacity = search rules;
     }
 
 pub write_after-requires-clause-planned : goal.write_after-requires-clause-planned
@@ -44,5 +44,5 @@ returns c =
       fault = accepted kind all _ (not_refused kind all c.requires.column) tt;
       room = search rules;
       unchanged = search rules;
-      kept = search rules;
+      capacity = search rules;
     }

@@ -4,13 +4,13 @@ use Rattle.std.proofs.lemmas.List.{nil_from_length}
 use Rattle.bitpack_columns.specs.declared.column_kind.ColumnKind.{ColumnKind}
 use Rattle.bitpack_columns.specs.Measured.{extended}
 use Rattle.bitpack_columns.proofs.EncodeLaws.{parts_are}
-use Rattle.bitpack_columns.proofs.WriteLaws.{blocks_if, some_blocks, text_long}
+use Rattle.bitpack_columns.proofs.WriteLaws.{blocks_if, encoding_long, some_blocks}
 use Rattle.bitpack_columns.proofs.appending.writing.write_after.Goals as goal
 
 pub split_at_mut-front-requires : goal.split_at_mut-front-requires
 split_at_mut-front-requires c =
     let all : List ℕ = extended c.args.column.now (c.args.filled.now ++ c.args.later.now) in
-    let long = text_long c.args.column.now.kind all in
+    let long = encoding_long c.args.column.now.kind all in
     let size = c.requires.planned.len_is in
     let head = ap length c.requires.planned.header_is in
     omega (arith, long, size, head)
@@ -18,7 +18,7 @@ split_at_mut-front-requires c =
 pub overflow_sub-rest : goal.overflow_sub-rest
 overflow_sub-rest c =
     let all : List ℕ = extended c.args.column.now (c.args.filled.now ++ c.args.later.now) in
-    let long = text_long c.args.column.now.kind all in
+    let long = encoding_long c.args.column.now.kind all in
     let size = c.requires.planned.len_is in
     let head = ap length c.requires.planned.header_is in
     let end = ap length c.requires.planned.tail_is in
@@ -28,7 +28,7 @@ overflow_sub-rest c =
 pub copy_from_slice-requires-2 : goal.copy_from_slice-requires-2
 copy_from_slice-requires-2 c =
     let all : List ℕ = extended c.args.column.now (c.args.filled.now ++ c.args.later.now) in
-    let long = text_long c.args.column.now.kind all in
+    let long = encoding_long c.args.column.now.kind all in
     let size = c.requires.planned.len_is in
     let head = ap length c.requires.planned.header_is in
     let end = ap length c.requires.planned.tail_is in
@@ -40,7 +40,7 @@ pub write_blocks_after-requires-clause-size : goal.write_blocks_after-requires-c
 write_blocks_after-requires-clause-size c =
     let kind : ColumnKind = c.args.column.now.kind in
     let all : List ℕ = extended c.args.column.now (c.args.filled.now ++ c.args.later.now) in
-    let long = text_long kind all in
+    let long = encoding_long kind all in
     let size = c.requires.planned.len_is in
     let head = ap length c.requires.planned.header_is in
     let end = ap length c.requires.planned.tail_is in
@@ -54,7 +54,7 @@ pub returns-then-not-is_empty : goal.returns-then-not-is_empty
 returns-then-not-is_empty c =
     let kind : ColumnKind = c.args.column.now.kind in
     let all : List ℕ = extended c.args.column.now (c.args.filled.now ++ c.args.later.now) in
-    let long = text_long kind all in
+    let long = encoding_long kind all in
     let size = c.requires.planned.len_is in
     let head = ap length c.requires.planned.header_is in
     let end = ap length c.requires.planned.tail_is in
@@ -69,7 +69,7 @@ pub returns-else-not-is_empty : goal.returns-else-not-is_empty
 returns-else-not-is_empty c =
     let kind : ColumnKind = c.args.column.now.kind in
     let all : List ℕ = extended c.args.column.now (c.args.filled.now ++ c.args.later.now) in
-    let long = text_long kind all in
+    let long = encoding_long kind all in
     let size = c.requires.planned.len_is in
     let head = ap length c.requires.planned.header_is in
     let end = ap length c.requires.planned.tail_is in

@@ -1,7 +1,7 @@
 -- The encoding is written if the slice has room for it.
 use Rattle.std.proofs.Common.{◌++◌, ℕ, List, drop, ap, ◌∙◌, arith, refl, rules}
 use Rattle.std.proofs.lemmas.List.{length-take-le}
-use Rattle.bitpack_columns.specs.Columns.{text}
+use Rattle.bitpack_columns.specs.Columns.{encoding}
 use Rattle.bitpack_columns.specs.Measured.{extended}
 use Rattle.bitpack_columns.proofs.EncodeLaws.{accepted}
 use Rattle.bitpack_columns.proofs.FallLaws.{not_refused}
@@ -36,7 +36,7 @@ returns c =
     record {
       column = c.requires.column;
       len = long;
-      ok = ap (λ (l : List ℕ). l ++ drop len old) c.write_after.ensures ∙ ap (λ (n : ℕ). text kind all ++ drop n old) long;
+      ok = ap (λ (l : List ℕ). l ++ drop len old) c.write_after.ensures ∙ ap (λ (n : ℕ). encoding kind all ++ drop n old) long;
       fault = accepted kind all _ (not_refused kind all c.requires.column) tt;
       room = search rules;
       unchanged = search rules;

@@ -1,16 +1,16 @@
 -- Each turn writes the positions of a block, as many as fit.
 use Rattle.std.proofs.Common.{◌≡◌, ◌≤◌, ◌<◌, ◌+◌, ◌-◌, ◌*◌, ◌/◌, ℕ, min, length, ap, arith}
-use Rattle.bitpack_columns.specs.Counted.{is_untold}
+use Rattle.bitpack_columns.specs.Counted.{is_undecided}
 use Rattle.bitpack_columns.specs.Opened.{blocks_of, values}
 use Rattle.bitpack_columns.proofs.CountedLaws.{passed, passed_fewer, passed_more}
-use Rattle.bitpack_columns.proofs.WithinLaws.{found_begun, found_end, found_full, found_next}
+use Rattle.bitpack_columns.proofs.WithinLaws.{found_end, found_full, found_next, found_started}
 use Rattle.bitpack_columns.proofs.column.Column.find_by_blocks.Goals as goal
 
 pub loop-block-init : goal.loop-block-init
 loop-block-init c =
     let column = c.args.self.now in
     record {
-      found = found_begun c.args.low c.args.high (values column) c.args.from (omega (arith, c.if-from-len.false, c.len.ensures)) c.args.out.now;
+      found = found_started c.args.low c.args.high (values column) c.args.from (omega (arith, c.if-from-len.false, c.len.ensures)) c.args.out.now;
       reads = omega arith;
     }
 
@@ -30,7 +30,7 @@ loop-block-preserved c =
     record {
       found = found_next c.args.low c.args.high (values column) from some c.args.out.now here.block here.done here.out here.invariant.found start inside left
           more.result c.min-fits.result more.new.found c.copy_from_slice.new.self room (rw index at more.ensures.found) fit c.copy_from_slice.ensures.after;
-      reads = passed_more (is_untold column c.args.low c.args.high) (from / 128) here.block c.args.reads.now.blocks here.reads.blocks more.new.reads.blocks start
+      reads = passed_more (is_undecided column c.args.low c.args.high) (from / 128) here.block c.args.reads.now.blocks here.reads.blocks more.new.reads.blocks start
           here.invariant.reads more.ensures.reads;
     }
 
@@ -57,7 +57,7 @@ returns-then-done-out-clause-reads c =
     omega (
       arith,
       here.invariant.reads,
-      passed_fewer (is_untold column c.args.low c.args.high) (c.args.from / 128) here.block (blocks_of column + 1) here.auto.block inside,
+      passed_fewer (is_undecided column c.args.low c.args.high) (c.args.from / 128) here.block (blocks_of column + 1) here.auto.block inside,
     )
 
 pub returns-clause-reads : goal.returns-clause-reads
@@ -67,4 +67,4 @@ returns-clause-reads c =
     let last : here.block ≡ blocks_of column + 1 =
     omega (arith, c.loop-block-test.false, here.auto.block-end, c.blocks-block-end.ensures, c.if-from-len.false, c.len.ensures) in
     let all : here.block - c.args.from / 128 ≡ blocks_of column + 1 - c.args.from / 128 = omega (arith, last) in
-    omega (arith, here.invariant.reads, ap (passed (is_untold column c.args.low c.args.high) (c.args.from / 128)) all)
+    omega (arith, here.invariant.reads, ap (passed (is_undecided column c.args.low c.args.high) (c.args.from / 128)) all)

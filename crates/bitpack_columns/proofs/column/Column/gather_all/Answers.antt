@@ -30,7 +30,7 @@ loop-index-init c = record {
   written = λ k lt. absurd (omega arith);
   read = record {
     few = omega arith;
-    held = λ some. absurd (omega (arith, some));
+    was_cached = λ some. absurd (omega (arith, some));
   };
   rest = refl;
 }

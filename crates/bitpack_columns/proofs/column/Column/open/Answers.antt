@@ -8,7 +8,7 @@ returns-clause-column c =
     let parts = c.in_ok-parts.parts in
     (column_of c.args.bytes.now parts.kind parts.count parts.first parts.rest.now (AreBytes-from_slice c.args.bytes.now c.type_inv.bytes) c.in_ok-parts.ensures.states).0
 
-pub returns-clause-text : goal.returns-clause-text
-returns-clause-text c =
+pub returns-clause-encoding : goal.returns-clause-encoding
+returns-clause-encoding c =
     let parts = c.in_ok-parts.parts in
     (column_of c.args.bytes.now parts.kind parts.count parts.first parts.rest.now (AreBytes-from_slice c.args.bytes.now c.type_inv.bytes) c.in_ok-parts.ensures.states).1

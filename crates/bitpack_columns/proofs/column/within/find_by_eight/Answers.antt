@@ -12,5 +12,5 @@ loop-group-preserved c =
     let put = c.put_ones-next in
     let more : 8 * (here.group + 1) ≡ 8 * here.group + 8 = omega arith in
     rw (more, put.ensures.end)
-    (found_eight c.args.low c.args.high c.args.values.now c.args.start (8 * here.group) here.next here.found here.invariant c.marks_of_eight-bits.result
-    put.new.found c.marks_of_eight-bits.ensures (rw put.ensures.end at put.ensures.found))
+    (found_eight c.args.low c.args.high c.args.values.now c.args.start (8 * here.group) here.next here.found here.invariant c.matches_of_eight-bits.result
+    put.new.found c.matches_of_eight-bits.ensures (rw put.ensures.end at put.ensures.found))

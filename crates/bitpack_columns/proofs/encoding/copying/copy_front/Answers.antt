@@ -2,7 +2,7 @@
 use Rattle.std.proofs.Common.{◌≡◌, ◌+◌, ◌-◌, ◌≤◌, ℕ, length, drop, take, ap, ◌∙◌, arith, rules}
 use Rattle.bitpack_columns.specs.Opened.{blocks_of}
 use Rattle.bitpack_columns.specs.Reads.{bodies_start}
-use Rattle.bitpack_columns.proofs.KeptLaws.{kept_bodies, kept_few, kept_room}
+use Rattle.bitpack_columns.proofs.CopiedLaws.{copied_bodies, copied_few, copied_room}
 use Rattle.bitpack_columns.proofs.OpenedLaws.{few_blocks, some_rest}
 use Rattle.bitpack_columns.proofs.encoding.copying.copy_front.Goals as goal
 
@@ -15,13 +15,13 @@ bodies_start-start-requires c =
 
 pub overflow_add-start : goal.overflow_add-start
 overflow_add-start c =
-    let few = kept_few c.args.column.now c.requires.some in
+    let few = copied_few c.args.column.now c.requires.some in
     let start = c.bodies_start-start.ensures ∙ ap (λ (n : ℕ). bodies_start n c.args.column.now.rest.now) c.blocks-2.ensures in
     record { fits = omega (arith, few, start, c.requires.bodies) }
 
 pub slice_bounds-copy_from_slice-end : goal.slice_bounds-copy_from_slice-end
 slice_bounds-copy_from_slice-end c =
-    let within = kept_room c.args.column.now c.requires.some in
+    let within = copied_room c.args.column.now c.requires.some in
     let start = c.bodies_start-start.ensures ∙ ap (λ (n : ℕ). bodies_start n c.args.column.now.rest.now) c.blocks-2.ensures in
     let room : c.bodies_start-start.result + length c.args.bodies.now ≤ length c.args.column.now.rest.now = omega (arith, within, start, c.requires.bodies) in
     search rules
@@ -34,4 +34,4 @@ returns-clause-bodies c =
     let cut : from + size - from ≡ size = omega arith in
     let start : from ≡ bodies_start (blocks_of column) column.rest.now = c.bodies_start-start.ensures ∙ ap (λ (n : ℕ). bodies_start n column.rest.now) c.blocks-2.ensures in
     c.copy_from_slice.ensures.after ∙ ap (λ (n : ℕ). take n (drop from column.rest.now)) cut ∙ ap (λ (n : ℕ). take size (drop n column.rest.now)) start
-    ∙ kept_bodies column c.requires.some c.args.bodies.now c.requires.bodies
+    ∙ copied_bodies column c.requires.some c.args.bodies.now c.requires.bodies

@@ -1,7 +1,7 @@
 -- The last end is the sum of all widths.
 use Rattle.std.proofs.Common.{sym, ap, ◌∙◌}
 use Rattle.bitpack_columns.specs.Reads.{begin_at}
-use Rattle.bitpack_columns.proofs.KeptLaws.{kept_total}
+use Rattle.bitpack_columns.proofs.CopiedLaws.{copied_total}
 use Rattle.bitpack_columns.proofs.OpenedLaws.{entries}
 use Rattle.bitpack_columns.proofs.encoding.copying.front_total.Goals as goal
 
@@ -9,4 +9,4 @@ pub begin_at-requires-clause-entries : goal.begin_at-requires-clause-entries
 begin_at-requires-clause-entries c = rw c.blocks-blocks.ensures (entries c.args.column.now 0 c.requires)
 
 pub returns : goal.returns
-returns c = c.begin_at.ensures ∙ ap (begin_at c.args.column.now.rest.now) c.blocks-blocks.ensures ∙ sym (kept_total c.args.column.now c.requires)
+returns c = c.begin_at.ensures ∙ ap (begin_at c.args.column.now.rest.now) c.blocks-blocks.ensures ∙ sym (copied_total c.args.column.now c.requires)

@@ -10,7 +10,7 @@ use Rattle.bitpack_columns.specs.declared.column_kind.ColumnKind.TheVariants.{Pl
 use Rattle.bitpack_columns.specs.Columns.{codes}
 use Rattle.bitpack_columns.specs.Numbers.{AreGroups, groups_of, number}
 use Rattle.bitpack_columns.proofs.CodeLaws.{codes_len, codes_words, least_le}
-use Rattle.bitpack_columns.proofs.WriteLaws.{coded_run, coded_text, empty_tail, plain_tail, room_for, sorted_tail, written_after}
+use Rattle.bitpack_columns.proofs.WriteLaws.{coded_encoding, coded_run, empty_tail, plain_tail, room_for, sorted_tail, written_after}
 use Rattle.bitpack_columns.proofs.encoding.parts.write_tail.Goals as goal
 
 pub returns-then-is_empty-clause-tail : goal.returns-then-is_empty-clause-tail
@@ -40,7 +40,7 @@ module _ (kind : ColumnKind) (base zeros : ℕ) (tail all : List ℕ) (words : A
       room_for (drop zeros (codes kind base tail)) groups words_left (omega (arith, length-drop zeros (codes kind base tail), codes_len kind base tail))
       (subst (λ (l : List ℕ). AreGroups (groups_of (length l)) l groups) rest are)
 
-  run : AreGroups (groups_of (length (take (length all - zeros) (drop zeros all)))) (take (length all - zeros) (drop zeros all)) (coded_text (drop zeros (codes kind base tail)))
+  run : AreGroups (groups_of (length (take (length all - zeros) (drop zeros all)))) (take (length all - zeros) (drop zeros all)) (coded_encoding (drop zeros (codes kind base tail)))
   run = coded_run (take (length all - zeros) (drop zeros all)) (drop zeros (codes kind base tail)) rest words_left
 
 pub write_groups-requires : goal.write_groups-requires
@@ -48,7 +48,7 @@ write_groups-requires c = record {
   room = λ groups are.
       let tail : List ℕ = c.args.tail.now in
       let few = room Plain c.bounds-least.result.0 c.left_out-zeros.result tail c.take_off.new.out (AreWords-from_slice tail c.type_inv.tail) c.requires.few c.take_off.ensures groups are in
-      let kept = c.write_number-end.auto.bytes in
+      let unchanged = c.write_number-end.auto.bytes in
       omega (arith, few, longest_number c.bounds-least.result.0, c.write_number-end.ensures.len, lent_after c.write_number-end.result c.write_number-end.new.bytes);
 }
 
@@ -67,24 +67,24 @@ returns-in-Plain-clause-tail c =
     let zeros : ℕ = c.left_out-zeros.result in
     let end : ℕ = c.write_number-end.result in
     let bytes : List ℕ = c.write_number-end.new.bytes in
-    let text : List ℕ = coded_text (drop zeros (codes Plain low tail)) in
+    let encoding : List ℕ = coded_encoding (drop zeros (codes Plain low tail)) in
     let one = run Plain low zeros tail c.take_off.new.out (AreWords-from_slice tail c.type_inv.tail) c.requires.few c.take_off.ensures in
     let some : 0 < length tail = search rules in
-    let kept = c.write_number-end.auto.bytes in
+    let unchanged = c.write_number-end.auto.bytes in
     let short = longest_number low in
     let long = c.write_number-end.ensures.len in
-    let new : take c.write_groups.result c.write_groups.new.bytes ≡ text =
-    ap (λ (k : ℕ). take k c.write_groups.new.bytes) (c.write_groups.ensures.len text one) ∙ c.write_groups.ensures.groups text one in
-    written_after end c.write_groups.result bytes c.write_groups.new.bytes (number low) text (omega arith) (c.write_groups.auto.bytes ∙ lent_after end bytes)
+    let new : take c.write_groups.result c.write_groups.new.bytes ≡ encoding =
+    ap (λ (k : ℕ). take k c.write_groups.new.bytes) (c.write_groups.ensures.len encoding one) ∙ c.write_groups.ensures.groups encoding one in
+    written_after end c.write_groups.result bytes c.write_groups.new.bytes (number low) encoding (omega arith) (c.write_groups.auto.bytes ∙ lent_after end bytes)
     c.write_number-end.ensures.number new
-    ∙ ap (λ (n : ℕ). number n ++ coded_text (drop zeros (codes Plain n tail))) c.bounds-least.ensures.least
+    ∙ ap (λ (n : ℕ). number n ++ coded_encoding (drop zeros (codes Plain n tail))) c.bounds-least.ensures.least
     ∙ sym (plain_tail c.args.kind c.args.blocks c.args.before zeros tail c.in-Plain.is some c.left_out-zeros.ensures.out)
 
 pub returns-in-Sorted-clause-tail : goal.returns-in-Sorted-clause-tail
 returns-in-Sorted-clause-tail c =
     let tail : List ℕ = c.args.tail.now in
     let zeros : ℕ = c.left_out-zeros.result in
-    let text : List ℕ = coded_text (drop zeros (codes Sorted c.args.before tail)) in
+    let encoding : List ℕ = coded_encoding (drop zeros (codes Sorted c.args.before tail)) in
     let one = run Sorted c.args.before zeros tail c.take_apart.new.out (AreWords-from_slice tail c.type_inv.tail) c.requires.few c.take_apart.ensures in
-    ap (λ (k : ℕ). take k c.write_groups-in-Sorted.new.bytes) (c.write_groups-in-Sorted.ensures.len text one) ∙ c.write_groups-in-Sorted.ensures.groups text one
+    ap (λ (k : ℕ). take k c.write_groups-in-Sorted.new.bytes) (c.write_groups-in-Sorted.ensures.len encoding one) ∙ c.write_groups-in-Sorted.ensures.groups encoding one
     ∙ sym (sorted_tail c.args.kind c.args.blocks c.args.before zeros tail c.in-Sorted.is c.left_out-zeros.ensures.out)

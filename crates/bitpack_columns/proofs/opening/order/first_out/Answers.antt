@@ -11,9 +11,9 @@ use Rattle.bitpack_columns.proofs.opening.order.first_out.Goals as goal
 -- the first code is 0 unless the values start late
 starts : (position : ℕ) (codes : List ℕ) (late : Bool) → Decides late ((position ≡ 0) × (0 < length codes) × (0 < get_or codes 0 0)) → late ≡ false
     → position ≡ 0 → 0 < length codes → get_or codes 0 0 ≡ 0
-starts position codes late tells is_not none some = elim (cases_lt 0 (get_or codes 0 0)) [
+starts position codes late decides is_not none some = elim (cases_lt 0 (get_or codes 0 0)) [
   | inl above ↦
-      let yes : late ≡ true = tells.1 (none, some, above) in
+      let yes : late ≡ true = decides.1 (none, some, above) in
       absurd cc
   | inr zero ↦ omega arith
 ]

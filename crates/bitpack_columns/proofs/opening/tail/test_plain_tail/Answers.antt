@@ -5,9 +5,9 @@ use Rattle.std.proofs.lemmas.List.{take_rest}
 use Rattle.bitpacking.specs.Codes.{AreWords}
 use Rattle.bitpacking.proofs.ForCallers.{AreWords-from_slice}
 use Rattle.bitpack_columns.specs.Numbers.{number_end}
-use Rattle.bitpack_columns.proofs.LeastLaws.{least_told}
+use Rattle.bitpack_columns.proofs.LeastLaws.{least_decided}
 use Rattle.bitpack_columns.proofs.SoundLaws.{not_mapped, number_small}
-use Rattle.bitpack_columns.proofs.TailTests.{plain_none, plain_told}
+use Rattle.bitpack_columns.proofs.TailTests.{plain_decided, plain_none}
 use Rattle.bitpack_columns.proofs.opening.tail.test_plain_tail.Goals as goal
 
 cut : (tail : List ℕ) (end : ℕ) → end ≡ number_end tail → take (length tail - end) (drop end tail) ≡ drop (number_end tail) tail
@@ -29,9 +29,9 @@ returns-then-not-is_least c =
     let long : length codes ≡ length c.args.codes.now = c.test_codes.auto.codes in
     let words : AreWords codes = AreWords-from_slice codes (search rules) in
     let small : base < 2 ^ 32 = rw number.value (number_small tail (not_mapped _ _ number.fault)) in
-    plain_told c.args.blocks (length c.args.codes.now) base tail (take (length tail - end) (drop end tail)) codes c.in_ok-later.later.now some number.fault
+    plain_decided c.args.blocks (length c.args.codes.now) base tail (take (length tail - end) (drop end tail)) codes c.in_ok-later.later.now some number.fault
     (cut tail end number.end) found.fault number.value found.codes found.rest false
-    (least_told base codes small words (omega arith) c.bounds-least.result.0 c.bounds-least.result.1 c.is_least.result
+    (least_decided base codes small words (omega arith) c.bounds-least.result.0 c.bounds-least.result.1 c.is_least.result
     c.bounds-least.ensures.least c.bounds-least.ensures.greatest c.is_least.ensures ∙ c.if-not-is_least.true)
 
 pub returns : goal.returns
@@ -46,7 +46,7 @@ returns c =
     let long : length codes ≡ length c.args.codes.now = c.test_codes.auto.codes in
     let words : AreWords codes = AreWords-from_slice codes (search rules) in
     let small : base < 2 ^ 32 = rw number.value (number_small tail (not_mapped _ _ number.fault)) in
-    rw (plain_told c.args.blocks (length c.args.codes.now) base tail (take (length tail - end) (drop end tail)) codes c.in_ok-later.later.now some number.fault
+    rw (plain_decided c.args.blocks (length c.args.codes.now) base tail (take (length tail - end) (drop end tail)) codes c.in_ok-later.later.now some number.fault
     (cut tail end number.end) found.fault number.value found.codes found.rest true
-    (least_told base codes small words (omega arith) c.bounds-least.result.0 c.bounds-least.result.1 c.is_least.result
+    (least_decided base codes small words (omega arith) c.bounds-least.result.0 c.bounds-least.result.1 c.is_least.result
     c.bounds-least.ensures.least c.bounds-least.ensures.greatest c.is_least.ensures ∙ c.if-not-is_least.false)) c.test_end-2.ensures

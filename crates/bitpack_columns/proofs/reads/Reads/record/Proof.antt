@@ -16,7 +16,7 @@ use denote.Ref.{mut_vals, mut_Tells}
 use denote.Signature.{plain, types_at}
 use denote.Steps.{nothing, opens, closes}
 use denote.Triple.Walked.{Stays, walk_of, stay_ref, stay_dropped, Goes-ref, Goes-dropped, ends_at}
-use Rattle.bitpacking.proofs.ForCallers.{tells, tells_last}
+use Rattle.bitpacking.proofs.ForCallers.{with_fact, with_last_fact}
 use Rattle.bitpack_columns.specs.declared.reads.Reads.{Reads}
 use Rattle.bitpack_columns.specs.contracts.reads.Reads as T
 use Rattle.bitpack_columns.specs.contracts.reads.Reads.record as f
@@ -54,4 +54,4 @@ record_spec 𝓤 𝓛 𝓜 𝓡 wired =
     move ! (3 ∷ []) $ group ! 3 $
     nothing ! $ nothing ! $ join ! $ nothing ! $ join ! $ move ! (1 ∷ 0 ∷ []) $ join ! $
     nothing ! $ move ! (2 ∷ 0 ∷ []) $ join ! $ feq_i ! _ (vunit ∷ []) _ refl $ move ! (1 ∷ 2 ∷ 0 ∷ []) $ group ! 3 $ frame ! $
-    tells ! refl $ tells_last ! refl)))
+    with_fact ! refl $ with_last_fact ! refl)))

@@ -6,7 +6,7 @@ use Rattle.std.proofs.Math.Nat.{div-add-mod}
 use Rattle.bitpack_lists.specs.Chains.{second_kind}
 use Rattle.bitpack_lists.specs.Parts.{first_kind}
 use Rattle.bitpack_lists.proofs.lemmas.blocks.MeasuredLengths.{measured_step}
-use Rattle.bitpack_lists.proofs.lemmas.blocks.WriteSteps.{block-left, left-more, last-block, kept_step, least_step}
+use Rattle.bitpack_lists.proofs.lemmas.blocks.WriteSteps.{block-left, left-more, last-block, cached_step, least_step}
 use Rattle.bitpack_lists.proofs.blocks.measuring.blocks_len.Goals as goal
 
 pub loop-index-init : goal.loop-index-init
@@ -15,7 +15,7 @@ loop-index-init g c = record {
   low = omega arith;
   bound = omega arith;
   measured = λ all long are. (rw c.first-kind.ensures are, omega arith);
-  kept = λ _. rw c.first-kind.ensures (λ later more. more);
+  cached = λ _. rw c.first-kind.ensures (λ later more. more);
   least = tt;
 }
 
@@ -55,13 +55,13 @@ loop-index-preserved g c =
           rw (next, after, c.compressed_block_size.ensures)
           (measured_step lanes c.args.entry_len i width c.loop-index.size c.loop-index.kind rest all (omega (arith, long, c.loop-index-test.true))
           (rw block at c.num_bits_kind-width.ensures.width) (before.measured all long are));
-      kept = λ le.
-          rw (next, after, c.keep_width.ensures.kept (omega arith))
-          (kept_step lanes (first_kind c.args.kind) c.loop-index.kind values rest (take i c.loop-index.widths) width
-          (rw block at c.num_bits_kind-width.ensures.width) (before.kept (omega arith)));
+      cached = λ le.
+          rw (next, after, c.cache_width.ensures.cached (omega arith))
+          (cached_step lanes (first_kind c.args.kind) c.loop-index.kind values rest (take i c.loop-index.widths) width
+          (rw block at c.num_bits_kind-width.ensures.width) (before.cached (omega arith)));
       least =
-          least_step lanes (first_kind c.args.kind) c.loop-index.kind values rest c.loop-index.widths c.keep_width.new.widths i width
-          (rw block at c.num_bits_kind-width.ensures.width) c.keep_width.ensures.kept c.keep_width.ensures.past before.kept before.least;
+          least_step lanes (first_kind c.args.kind) c.loop-index.kind values rest c.loop-index.widths c.cache_width.new.widths i width
+          (rw block at c.num_bits_kind-width.ensures.width) c.cache_width.ensures.cached c.cache_width.ensures.past before.cached before.least;
     }
 
 pub returns-clause-room : goal.returns-clause-room

@@ -32,9 +32,9 @@ loop-number-preserved g c =
       values = copied_block (value_of self) n len i out block whole (omega arith) long before.values (λ k inside. part.values_are k (omega arith));
       kind_is =
           rw add-one
-          (c.next_kind-kind.ensures ∙ ap (λ k. next_kind k c.mark.result) c.first-first.ensures ∙ ap (next_kind _) c.mark.ensures.mark);
-      entries = omega (arith, c.unpack_block.ensures.entries, c.mark.ensures.entries, before.entries);
-      blocks = omega (arith, c.unpack_block.ensures.blocks, c.mark.ensures.blocks, before.blocks);
+          (c.next_kind-kind.ensures ∙ ap (λ k. next_kind k c.skip_key.result) c.first-first.ensures ∙ ap (next_kind _) c.skip_key.ensures.skip_key);
+      entries = omega (arith, c.unpack_block.ensures.entries, c.skip_key.ensures.entries, before.entries);
+      blocks = omega (arith, c.unpack_block.ensures.blocks, c.skip_key.ensures.blocks, before.blocks);
     }
 
 pub returns-clause-values : goal.returns-clause-values

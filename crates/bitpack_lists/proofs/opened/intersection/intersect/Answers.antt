@@ -2,7 +2,7 @@
 use Rattle.std.proofs.Common.{◌+◌, ◌*◌, ◌≤◌, ◌++◌, length, refl, sym, ◌∙◌, ap, vec_capacity, arith}
 use Rattle.bitpack_lists.specs.Opened.{values}
 use Rattle.bitpack_lists.specs.Parts.{whole_blocks}
-use Rattle.bitpack_lists.specs.inner.Walks.{Begun, begun_with, values_in}
+use Rattle.bitpack_lists.specs.inner.Walks.{Started, started_with, values_in}
 use Rattle.bitpack_lists.proofs.lemmas.blocks.ListLemmas.{on_err}
 use Rattle.bitpack_lists.proofs.lemmas.opened.OpenedValues.{are_listed, length-values}
 use Rattle.bitpack_lists.proofs.lemmas.opened.Sharing.{shared_common}
@@ -32,8 +32,8 @@ returns-clause-reads_a g c =
     let count = sym (length-values a) in
     let (walk, over) = c.walk_list.ensures.walking in
     let after = over.walking in
-    let begun : Begun = begun_with c.reserve.new.self.items c.args.reads_a.now c.args.reads_b.now in
-    let few = walked_few g.Q.BitPacker.lanes (values_in a) (values_in b) begun a.count walk.want walk.kept.number c.walk_list.new.out.items
+    let started : Started = started_with c.reserve.new.self.items c.args.reads_a.now c.args.reads_b.now in
+    let few = walked_few g.Q.BitPacker.lanes (values_in a) (values_in b) started a.count walk.want walk.cached.number c.walk_list.new.out.items
     (vec_capacity c.walk_list.new.out) c.walk_list.new.reads.blocks c.walk_list.new.other_reads 0 after.walked refl in
     let blocks : c.walk_list.new.reads.blocks ≤ c.args.reads_a.now.blocks + whole_blocks g.P.BitPacker.lanes (length (values a)) = rw count at c.walk_list.ensures.blocks in
     record { entries = rw count at c.walk_list.ensures.entries; blocks = omega (arith, few, blocks, length-values b); grown = c.walk_list.ensures.grown }
@@ -46,16 +46,16 @@ returns-clause-reads_b g c =
     let count' = sym (length-values b) in
     let (walk, over) = c.walk_list.ensures.walking in
     let after = over.walking in
-    let begun : Begun = begun_with c.reserve.new.self.items c.args.reads_a.now c.args.reads_b.now in
+    let started : Started = started_with c.reserve.new.self.items c.args.reads_a.now c.args.reads_b.now in
     record {
       entries = λ digits fits.
           let few : c.walk_list.new.other_reads.entries ≤ c.args.reads_b.now.entries + a.count * digits =
-          entries_few g.Q.BitPacker.lanes (values_in a) (values_in b) begun a.count walk.want walk.kept.number c.walk_list.new.out.items
+          entries_few g.Q.BitPacker.lanes (values_in a) (values_in b) started a.count walk.want walk.cached.number c.walk_list.new.out.items
           (vec_capacity c.walk_list.new.out) c.walk_list.new.reads.blocks c.walk_list.new.other_reads 0 after.walked digits (rw count' fits) in
           rw count at few;
       blocks =
           rw (count, count')
-          at (blocks_few g.Q.BitPacker.lanes (values_in a) (values_in b) begun a.count walk.want walk.kept.number c.walk_list.new.out.items
+          at (blocks_few g.Q.BitPacker.lanes (values_in a) (values_in b) started a.count walk.want walk.cached.number c.walk_list.new.out.items
           (vec_capacity c.walk_list.new.out) c.walk_list.new.reads.blocks c.walk_list.new.other_reads 0 after.walked);
       grown = after.walked.grown;
     }

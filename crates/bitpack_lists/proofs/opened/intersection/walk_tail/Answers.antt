@@ -12,11 +12,11 @@ pub walk_values-requires : goal.walk_values-requires
 walk_values-requires g c =
     let list = c.args.one.now in
     let n : ℕ = 32 * g.P.BitPacker.lanes in
-    let (begun, blocks, before) = c.requires in
+    let (started, blocks, before) = c.requires in
     let read = c.read_tail-tail.new.values in
     let long : length (take c.read_tail-tail.result read) ≡ c.read_tail-tail.result = omega (arith, length-take c.read_tail-tail.result read, c.read_tail-tail.ensures.len, few_in_tail g.P.BitPacker.lanes list.count g.met.P.BitPacker.some_lanes g.met.P.BitPacker.few_lanes) in (
-      stage_of (values_in list) begun (n * blocks_of list) blocks 0,
-      next_tail list g.met.P.BitPacker.some_lanes before.ordered begun blocks 0
+      stage_of (values_in list) started (n * blocks_of list) blocks 0,
+      next_tail list g.met.P.BitPacker.some_lanes before.ordered started blocks 0
           (take c.read_tail-tail.result read) (long ∙ c.read_tail-tail.ensures.len)
           (λ k lt. get_or-take c.read_tail-tail.result read k 0 (rw long at lt) ∙ c.read_tail-tail.ensures.values k (rw long at lt)),
       before.walking,
@@ -24,7 +24,7 @@ walk_values-requires g c =
 
 pub returns : goal.returns
 returns g c = record {
-  walking = λ begun blocks before.
+  walking = λ started blocks before.
       let list = c.args.one.now in
       let n : ℕ = 32 * g.P.BitPacker.lanes in
       let read = c.read_tail-tail.new.values in
@@ -33,8 +33,8 @@ returns g c = record {
       omega (arith, long, c.read_tail-tail.ensures.len, div-add-mod list.count n) in
       record {
         ordered = before.ordered;
-        walking = rw end at (c.walk_values.ensures.walking (stage_of (values_in list) begun (n * blocks_of list) blocks 0)
-            (next_tail list g.met.P.BitPacker.some_lanes before.ordered begun blocks 0
+        walking = rw end at (c.walk_values.ensures.walking (stage_of (values_in list) started (n * blocks_of list) blocks 0)
+            (next_tail list g.met.P.BitPacker.some_lanes before.ordered started blocks 0
             (take c.read_tail-tail.result read) (long ∙ c.read_tail-tail.ensures.len)
             (λ k lt. get_or-take c.read_tail-tail.result read k 0 (rw long at lt) ∙ c.read_tail-tail.ensures.values k (rw long at lt))) before.walking);
       };

@@ -8,10 +8,10 @@ use Rattle.bitpack_lists.proofs.lemmas.opened.WalkSteps.{step_passed, step_room,
 use Rattle.bitpack_lists.proofs.opened.intersection.walk_values.Goals as goal
 use Rattle.bitpack_lists.proofs.opened.intersection.walk_values.Goals.{then-value-walk, else-value-walk}
 
-pub seek_kept-found-requires-clause-kept : goal.seek_kept-found-requires-clause-kept
-seek_kept-found-requires-clause-kept g c =
+pub seek_cached-found-requires-clause-cached : goal.seek_cached-found-requires-clause-cached
+seek_cached-found-requires-clause-cached g c =
     let (stage, next, walking) = c.requires in
-    (c.loop-index.invariant.walking stage next walking).kept
+    (c.loop-index.invariant.walking stage next walking).cached
 
 pub append_found-requires : goal.append_found-requires
 append_found-requires g c = record {
@@ -20,9 +20,9 @@ append_found-requires g c = record {
       let before = c.loop-index.invariant.walking stage next walking in
       let list = c.args.other.now in
       let order : InOrder (values_in list) = in_order list.kind (values_in list).value list.count before.ordered (opened_ordered list g.met.Q.BitPacker.some_lanes) in
-      step_room g.Q.BitPacker.lanes (values_in list) stage c.args.values.now c.loop-index.index c.loop-index.walk.want c.loop-index.walk.kept.number
+      step_room g.Q.BitPacker.lanes (values_in list) stage c.args.values.now c.loop-index.index c.loop-index.walk.want c.loop-index.walk.cached.number
       c.loop-index.out.items (vec_capacity c.loop-index.out) c.loop-index.other_reads order next c.loop-index-test.true before.walked (vec_len c.loop-index.out)
-      c.seek_kept-found.result (omega (arith, c.loop-index.out.ok)) c.if-value-walk.true (sym c.seek_kept-found.ensures.found);
+      c.seek_cached-found.result (omega (arith, c.loop-index.out.ok)) c.if-value-walk.true (sym c.seek_cached-found.ensures.found);
 }
 
 pub loop-index-preserved : goal.loop-index-preserved
@@ -34,26 +34,26 @@ loop-index-preserved g c = record {
       elim c.if-value-walk.branch [
         | then-value-walk w ↦ rw (w.walk-is, w.out-is, w.other_reads-is) (record {
           ordered = before.ordered;
-          kept = w.seek_kept-found.ensures.kept.kept;
+          cached = w.seek_cached-found.ensures.cached.cached;
           walked =
               rw w.append_found.ensures.capacity
-              (step_searched g.Q.BitPacker.lanes (values_in list) stage c.args.values.now c.loop-index.index c.loop-index.walk.want c.loop-index.walk.kept.number
-              c.loop-index.out.items (vec_capacity c.loop-index.out) c.loop-index.other_reads order next c.loop-index-test.true before.walked w.seek_kept-found.result
-              w.wanted_next-walk.result w.seek_kept-found.new.kept.number w.append_found.new.out.items w.seek_kept-found.new.reads w.if-value-walk.true (record {
-                answers = sym w.seek_kept-found.ensures.found;
-                entries = w.seek_kept-found.ensures.kept.entries;
-                blocks = w.seek_kept-found.ensures.kept.blocks;
-                again = w.seek_kept-found.ensures.kept.again;
-                grown = w.seek_kept-found.ensures.kept.grown;
-                inside = w.seek_kept-found.ensures.kept.inside;
-                outside = w.seek_kept-found.ensures.kept.outside;
+              (step_searched g.Q.BitPacker.lanes (values_in list) stage c.args.values.now c.loop-index.index c.loop-index.walk.want c.loop-index.walk.cached.number
+              c.loop-index.out.items (vec_capacity c.loop-index.out) c.loop-index.other_reads order next c.loop-index-test.true before.walked w.seek_cached-found.result
+              w.wanted_next-walk.result w.seek_cached-found.new.cached.number w.append_found.new.out.items w.seek_cached-found.new.reads w.if-value-walk.true (record {
+                answers = sym w.seek_cached-found.ensures.found;
+                entries = w.seek_cached-found.ensures.cached.entries;
+                blocks = w.seek_cached-found.ensures.cached.blocks;
+                again = w.seek_cached-found.ensures.cached.again;
+                grown = w.seek_cached-found.ensures.cached.grown;
+                inside = w.seek_cached-found.ensures.cached.inside;
+                outside = w.seek_cached-found.ensures.cached.outside;
               }) w.wanted_next-walk.ensures w.append_found.ensures.appends);
         })
         | else-value-walk w ↦ rw (w.walk-is, w.out-is, w.other_reads-is) (record {
           ordered = before.ordered;
-          kept = before.kept;
+          cached = before.cached;
           walked =
-              step_passed g.Q.BitPacker.lanes (values_in list) stage c.args.values.now c.loop-index.index c.loop-index.walk.want c.loop-index.walk.kept.number
+              step_passed g.Q.BitPacker.lanes (values_in list) stage c.args.values.now c.loop-index.index c.loop-index.walk.want c.loop-index.walk.cached.number
               c.loop-index.out.items (vec_capacity c.loop-index.out) c.loop-index.other_reads order next c.loop-index-test.true before.walked w.if-value-walk.false;
         })
       ];

@@ -9,8 +9,8 @@ use Rattle.bitpack_lists.specs.Chains.{second_kind}
 use Rattle.bitpacking.proofs.ForCallers.{AreWords-from_slice}
 use Rattle.bitpack_lists.specs.Parts.{whole_blocks}
 use Rattle.bitpack_lists.specs.Version1.{Blocks1}
-use Rattle.bitpack_lists.proofs.lemmas.v1.OneText1.{blocks_of}
-use Rattle.bitpack_lists.proofs.lemmas.blocks.WriteSteps.{block-left, left-more, last-block, packable, written_step, written_room, written_tail, written_tail_room, kept_first, kept_rest}
+use Rattle.bitpack_lists.proofs.lemmas.v1.OneEncoding1.{blocks_of}
+use Rattle.bitpack_lists.proofs.lemmas.blocks.WriteSteps.{block-left, left-more, last-block, packable, written_step, written_room, written_tail, written_tail_room, cached_first, cached_rest}
 use Rattle.bitpack_lists.proofs.v1.writing.write_blocks.Goals as goal
 
 pub loop-index-init : goal.loop-index-init
@@ -18,14 +18,14 @@ loop-index-init g c = record {
   left = omega arith;
   capacity = omega arith;
   least = rw (c.BLOCK_LEN-len.ensures ∙ g.met.P.BitPacker.block_len) c.requires.widths;
-  written = λ text small blocks. (text, small, rw sub-zero blocks, refl);
+  written = λ encoding small blocks. (encoding, small, rw sub-zero blocks, refl);
 }
 
 -- The values have an encoded list, and there is room for it.
 module _ (lanes : ℕ) (kind : Kind) (values : List ℕ) (len old capacity : ℕ) (some : 1 ≤ lanes) (whole : len ≡ 32 * lanes) (words : AreWords values)
-    (room : (text : List ℕ) → Blocks1 lanes (whole_blocks lanes (length values)) kind values text → old + length text ≤ capacity) where
-  text_with_room : (text : List ℕ) × AreBytes text × Blocks1 lanes (length values / len) kind values text × (old + length text ≤ capacity)
-  text_with_room =
+    (room : (encoding : List ℕ) → Blocks1 lanes (whole_blocks lanes (length values)) kind values encoding → old + length encoding ≤ capacity) where
+  encoding_with_room : (encoding : List ℕ) × AreBytes encoding × Blocks1 lanes (length values / len) kind values encoding × (old + length encoding ≤ capacity)
+  encoding_with_room =
       let blocks : ℕ = whole_blocks lanes (length values) in
       let few : 32 * lanes * blocks ≤ length values = omega arith in
       let found = blocks_of lanes blocks kind values some words few in
@@ -52,9 +52,9 @@ width_of-width-requires g c =
     let block : c.split_at.result.0.now ≡ take (32 * lanes) rest = c.split_at.ensures.front ∙ ap (λ m. take m rest) whole in
     record {
       block = c.split_at.ensures.front_len ∙ c.BLOCK_LEN-len.ensures;
-      kept = λ lt.
+      cached = λ lt.
           let inside : i < length (take blocks widths) = simp length-take (omega arith) in
-          let first = kept_first lanes c.loop-index.kind rest (take blocks widths) i inside c.loop-index.invariant.least in
+          let first = cached_first lanes c.loop-index.kind rest (take blocks widths) i inside c.loop-index.invariant.least in
           rw (block, ← get_or-take blocks widths i 0 (omega arith)) first.0;
     }
 
@@ -69,16 +69,16 @@ write_block-requires g c =
     let whole : len ≡ n = c.BLOCK_LEN-len.ensures ∙ g.met.P.BitPacker.block_len in
     let block : c.split_at.result.0.now ≡ take n rest = c.split_at.ensures.front ∙ ap (λ m. take m rest) whole in
     let words : AreWords values = AreWords-from_slice values c.type_inv.values in
-    let text = text_with_room lanes c.args.kind values len (vec_len c.args.out.now) (vec_capacity c.args.out.now) g.met.P.BitPacker.some_lanes whole words c.requires.room in
-    let before = c.loop-index.invariant.written text.0 text.1 text.2 in
+    let encoding = encoding_with_room lanes c.args.kind values len (vec_len c.args.out.now) (vec_capacity c.args.out.now) g.met.P.BitPacker.some_lanes whole words c.requires.room in
+    let before = c.loop-index.invariant.written encoding.0 encoding.1 encoding.2 in
     record {
       pack = packable lanes c.width_of-width.result c.loop-index.kind c.split_at.result.0.now c.loop-index.body c.width_of-width.ensures.width
           (c.split_at.ensures.front_len ∙ whole) c.width_of-width.ensures.narrow g.met.P.BitPacker.few_lanes (omega arith);
       width = c.width_of-width.ensures.width;
       room = λ part is.
-          let fits = written_room lanes (length values / len) i c.loop-index.kind rest c.loop-index.out.items part (c.args.out.now.items ++ text.0) c.loop-index-test.true
+          let fits = written_room lanes (length values / len) i c.loop-index.kind rest c.loop-index.out.items part (c.args.out.now.items ++ encoding.0) c.loop-index-test.true
           (rw block at is) before in
-          omega (arith, fits, length-append c.args.out.now.items text.0, text.3, c.loop-index.invariant.capacity, c.loop-index.out.ok, c.args.out.now.ok);
+          omega (arith, fits, length-append c.args.out.now.items encoding.0, encoding.3, c.loop-index.invariant.capacity, c.loop-index.out.ok, c.args.out.now.ok);
     }
 
 pub loop-index-preserved : goal.loop-index-preserved
@@ -102,11 +102,11 @@ loop-index-preserved g c =
     record {
       left = left-more n i (length values) (length rest) (length c.split_at.result.1.now) before.left (ap length after ∙ length-drop n rest) room;
       capacity = omega (arith, part.3.capacity);
-      least = rw (next, after) (kept_rest lanes c.loop-index.kind rest (take (length values / len) c.args.widths.now) i before.least);
-      written = λ text small blocks.
+      least = rw (next, after) (cached_rest lanes c.loop-index.kind rest (take (length values / len) c.args.widths.now) i before.least);
+      written = λ encoding small blocks.
           rw (next, after)
-          (written_step lanes (length values / len) i c.loop-index.kind rest c.loop-index.out.items part.0 c.write_block.new.out.items (c.args.out.now.items ++ text)
-          some c.loop-index-test.true part.1 part.2 part.3.items (before.written text small blocks));
+          (written_step lanes (length values / len) i c.loop-index.kind rest c.loop-index.out.items part.0 c.write_block.new.out.items (c.args.out.now.items ++ encoding)
+          some c.loop-index-test.true part.1 part.2 part.3.items (before.written encoding small blocks));
     }
 
 pub write_all-requires : goal.write_all-requires
@@ -116,12 +116,12 @@ write_all-requires g c =
     let values : List ℕ = c.args.values.now in
     let whole : len ≡ 32 * lanes = c.BLOCK_LEN-len.ensures ∙ g.met.P.BitPacker.block_len in
     let words : AreWords values = AreWords-from_slice values c.type_inv.values in
-    let text = text_with_room lanes c.args.kind values len (vec_len c.args.out.now) (vec_capacity c.args.out.now) g.met.P.BitPacker.some_lanes whole words c.requires.room in
-    let before = c.loop-index.invariant.written text.0 text.1 text.2 in
-    let fits = written_tail_room lanes (length values / len) c.loop-index.index c.loop-index.kind c.loop-index.rest.now c.loop-index.out.items (c.args.out.now.items ++ text.0)
+    let encoding = encoding_with_room lanes c.args.kind values len (vec_len c.args.out.now) (vec_capacity c.args.out.now) g.met.P.BitPacker.some_lanes whole words c.requires.room in
+    let before = c.loop-index.invariant.written encoding.0 encoding.1 encoding.2 in
+    let fits = written_tail_room lanes (length values / len) c.loop-index.index c.loop-index.kind c.loop-index.rest.now c.loop-index.out.items (c.args.out.now.items ++ encoding.0)
     c.loop-index-test.false before in
     record {
-      room = omega (arith, fits, length-append c.args.out.now.items text.0, text.3, c.loop-index.invariant.capacity, c.loop-index.out.ok, c.args.out.now.ok);
+      room = omega (arith, fits, length-append c.args.out.now.items encoding.0, encoding.3, c.loop-index.invariant.capacity, c.loop-index.out.ok, c.args.out.now.ok);
     }
 
 pub returns : goal.returns
@@ -130,8 +130,8 @@ returns g c =
     let len : ℕ = c.BLOCK_LEN-len.result in
     let values : List ℕ = c.args.values.now in
     let whole : len ≡ 32 * lanes = c.BLOCK_LEN-len.ensures ∙ g.met.P.BitPacker.block_len in
-    λ text small blocks.
-    let blocks' : Blocks1 lanes (length values / len) c.args.kind values text = rw whole blocks in
+    λ encoding small blocks.
+    let blocks' : Blocks1 lanes (length values / len) c.args.kind values encoding = rw whole blocks in
     c.write_all.ensures.items
-    ∙ written_tail lanes (length values / len) c.loop-index.index c.loop-index.kind c.loop-index.rest.now c.loop-index.out.items (c.args.out.now.items ++ text)
-    c.loop-index-test.false (c.loop-index.invariant.written text small blocks')
+    ∙ written_tail lanes (length values / len) c.loop-index.index c.loop-index.kind c.loop-index.rest.now c.loop-index.out.items (c.args.out.now.items ++ encoding)
+    c.loop-index-test.false (c.loop-index.invariant.written encoding small blocks')

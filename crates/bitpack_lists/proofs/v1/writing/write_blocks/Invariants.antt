@@ -11,6 +11,6 @@ invariant-loop-index g l = record {
   left : length l.rest + 32 * g.P.BitPacker.lanes * l.index ≡ length l.values;
   capacity : vec_capacity l.initial.out ≤ vec_capacity l.out;
   least : LeastWidths g.P.BitPacker.lanes l.kind l.rest (drop l.index (take l.blocks l.widths));
-  written : (text : List ℕ) → AreBytes text → Blocks1 g.P.BitPacker.lanes l.blocks l.fn.kind l.values text
-      → Written g.P.BitPacker.lanes (l.blocks - l.index) l.kind l.rest l.out.items (l.initial.out.items ++ text);
+  written : (encoding : List ℕ) → AreBytes encoding → Blocks1 g.P.BitPacker.lanes l.blocks l.fn.kind l.values encoding
+      → Written g.P.BitPacker.lanes (l.blocks - l.index) l.kind l.rest l.out.items (l.initial.out.items ++ encoding);
 }

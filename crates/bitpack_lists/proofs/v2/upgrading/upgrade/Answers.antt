@@ -14,7 +14,7 @@ use Rattle.bitpack_lists.proofs.lemmas.blocks.ListLemmas.{lanes-is, on_err, on_o
 use Rattle.bitpack_lists.proofs.lemmas.v1.Soundness1.{later_from_none, list_from_none}
 use Rattle.bitpack_lists.proofs.lemmas.blocks.PartLemmas.{AreBytes-from_items, AreBytes-right}
 use Rattle.bitpack_lists.proofs.lemmas.blocks.RestLemmas.{List2-from_rest, rest_done}
-use Rattle.bitpack_lists.proofs.lemmas.v2.OrderedTexts.{faulty, lent, listed_as, none_is, out_is, tested}
+use Rattle.bitpack_lists.proofs.lemmas.v2.OrderedEncodings.{faulty, lent, listed_as, none_is, out_is, tested}
 use Rattle.bitpack_lists.proofs.lemmas.v2.Upgraded.{length_upgraded}
 use Rattle.bitpack_lists.proofs.lemmas.v2.UpgradeSteps.{enough_left, none_from_ok}
 use Rattle.bitpack_lists.proofs.v2.upgrading.upgrade.Goals as goal
@@ -26,7 +26,7 @@ returns-in_err-header-clause-order g c = λ kind values list.
     absurd (faulty g.P.BitPacker.lanes kind values c.args.bytes.now _ g.met.P.BitPacker.some_lanes c.in_err-header.ensures.fault list)
 
 pub returns-in_err-header-clause-room : goal.returns-in_err-header-clause-room
-returns-in_err-header-clause-room g c = λ kind values text list list'.
+returns-in_err-header-clause-room g c = λ kind values encoding list list'.
     absurd (faulty g.P.BitPacker.lanes kind values c.args.bytes.now _ g.met.P.BitPacker.some_lanes c.in_err-header.ensures.fault list)
 
 -- ---- order
@@ -50,7 +50,7 @@ returns-in-Err-clause-order g c = λ kind values list.
     rw found refl
 
 pub returns-in-Err-clause-room : goal.returns-in-Err-clause-room
-returns-in-Err-clause-room g c = λ kind values text list list'.
+returns-in-Err-clause-room g c = λ kind values encoding list list'.
     let found = out_is g.P.BitPacker.lanes c.in_ok-header.header.count c.in_ok-header.header.kind c.args.bytes.now c.in_ok-header.ensures.header c.test_order.result
     c.in-Err.position c.test_order.ensures.order c.in-Err.is kind values list in
     let other : Some c.in-Err.position ≡ None = sym found ∙ list'.ordered in
@@ -71,13 +71,13 @@ returns-clause-order g c = λ kind values list.
 -- ---- room
 
 pub returns-then-is_err-clause-room : goal.returns-then-is_err-clause-room
-returns-then-is_err-clause-room g c = λ kind values text list list'.
+returns-then-is_err-clause-room g c = λ kind values encoding list list'.
     let lanes : ℕ = g.P.BitPacker.lanes in
     let whole : c.BLOCK_LEN.result ≡ 32 * lanes = c.BLOCK_LEN.ensures ∙ g.met.P.BitPacker.block_len in
     let full = on_err c.reserve.result (sym c.is_err.ensures.value ∙ c.if-is_err.true) c.reserve.ensures.full in
     let is = (listed_as lanes c.in_ok-header.header.count c.in_ok-header.header.kind c.args.bytes.now c.in_ok-header.ensures.header kind values list).1 in
     let blocks : c.in_ok-header.header.count / c.BLOCK_LEN.result ≡ whole_blocks lanes (length values) = rw (whole, is.long) refl in
-    omega (arith, full, blocks, length_upgraded lanes kind values c.args.bytes.now text g.met.P.BitPacker.some_lanes list list')
+    omega (arith, full, blocks, length_upgraded lanes kind values c.args.bytes.now encoding g.met.P.BitPacker.some_lanes list list')
 
 -- What is in the vector after the header.
 module _ (lanes len count : ℕ) (kind : ListKind) (old reserved written : List ℕ) (same : reserved ≡ old)
@@ -213,8 +213,8 @@ returns-clause-ok g c =
     let (entries, has, entered) = c.write_entries.ensures.entries all is in
     let (bodies, whole, copied, tail) = c.copy_bodies-tail.ensures.bodies all entries is has in
     let later : List ℕ = bodies ++ c.copy_bodies-tail.result.now in
-    let text : List ℕ = header 2 kind lanes (length all) ++ (entries ++ later) in
-    let items : c.append.new.out.items ≡ old ++ text =
+    let encoding : List ℕ = header 2 kind lanes (length all) ++ (entries ++ later) in
+    let items : c.append.new.out.items ≡ old ++ encoding =
     c.append.ensures.items ∙ ap (λ xs. xs ++ c.copy_bodies-tail.result.now) copied.items ∙ append_assoc c.write_entries.new.out.items bodies c.copy_bodies-tail.result.now
     ∙ ap (λ xs. xs ++ later) (entered ∙ ap (λ xs. xs ++ entries) (front ∙ ap (λ n. old ++ header 2 kind lanes n) (sym is.long)))
     ∙ append_assoc (old ++ header 2 kind lanes (length all)) entries later ∙ append_assoc old (header 2 kind lanes (length all)) (entries ++ later) in
@@ -225,9 +225,9 @@ returns-clause-ok g c =
     let rest' : IsRest2 lanes (whole_blocks lanes (length all)) kind all (entries ++ later) = rw is.long rest in (
       kind,
       all,
-      text,
+      encoding,
       list lanes head.count kind bytes some small begins none,
-      AreBytes-right old text (rw items at (AreBytes-from_items c.append.new.out.items c.type_inv.out)),
+      AreBytes-right old encoding (rw items at (AreBytes-from_items c.append.new.out.items c.type_inv.out)),
       List2-from_rest lanes kind all (entries ++ later) is.words ordered (omega (arith, is.long, begins.few)) rest',
       items,
     )

@@ -1,4 +1,4 @@
--- There is room for the text, and header, entries, bodies and tail are it.
+-- There is room for the encoding, and header, entries, bodies and tail are it.
 use Rattle.std.proofs.Common.{◌≡◌, ◌+◌, ◌-◌, ◌*◌, ◌/◌, ◌%◌, ◌<◌, ◌++◌, ℕ, List, length, take, drop, get_or, Option, Some, None, refl, sym, ◌∙◌, ap, arith, append_assoc, zero-add, vec_len}
 use Rattle.std.proofs.Math.Nat.{mod-eq-sub-mul-div, mul-div-le}
 use Rattle.std.proofs.lemmas.List.{length-append, length-drop, take-append-drop, take_all}
@@ -12,7 +12,7 @@ use Rattle.bitpack_lists.proofs.lemmas.blocks.ListLemmas.{lanes-is, on_err, on_o
 use Rattle.bitpack_lists.proofs.lemmas.blocks.MeasuredLengths.{length-rest2}
 use Rattle.bitpack_lists.proofs.lemmas.blocks.Orders.{ordered_first}
 use Rattle.bitpack_lists.proofs.lemmas.blocks.PartLemmas.{AreBytes-from_items, AreBytes-right}
-use Rattle.bitpack_lists.proofs.lemmas.blocks.RestLemmas.{List2-from_rest, length-tail, length-text2, rest_done}
+use Rattle.bitpack_lists.proofs.lemmas.blocks.RestLemmas.{List2-from_rest, length-encoding2, length-tail, rest_done}
 use Rattle.bitpack_lists.proofs.v2.writing.encode.Goals as goal
 
 -- ---- order
@@ -22,21 +22,21 @@ found_is : (kind : ListKind) (values : List ℕ) (found : Option ℕ) → found 
     → first_out kind values ≡ found
 found_is kind values found is = sym (is ∙ ap (least_below (is_out kind (λ k. get_or values k 0))) (zero-add (length values)))
 
-in_place : (values : List ℕ) (k : ℕ) → k < length values → get_or values (0 + k) 0 ≡ get_or values k 0
-in_place values k lt = ap (λ i. get_or values i 0) (zero-add k)
+at_position : (values : List ℕ) (k : ℕ) → k < length values → get_or values (0 + k) 0 ≡ get_or values k 0
+at_position values k lt = ap (λ i. get_or values i 0) (zero-add k)
 
 pub returns-in-Some-clause-order : goal.returns-in-Some-clause-order
 returns-in-Some-clause-order g c = λ few.
     let values : List ℕ = c.args.values.now in
     let found = found_is c.args.kind values c.first_out.result
-    (c.first_out.ensures (λ k. get_or values k 0) (ordered_first c.args.kind (λ k. get_or values k 0) 0) (in_place values)) in
+    (c.first_out.ensures (λ k. get_or values k 0) (ordered_first c.args.kind (λ k. get_or values k 0) 0) (at_position values)) in
     rw (found, c.in-Some.is) refl
 
 pub returns-in-Some-clause-room : goal.returns-in-Some-clause-room
 returns-in-Some-clause-room g c = λ few none.
     let values : List ℕ = c.args.values.now in
     let found = found_is c.args.kind values c.first_out.result
-    (c.first_out.ensures (λ k. get_or values k 0) (ordered_first c.args.kind (λ k. get_or values k 0) 0) (in_place values)) in
+    (c.first_out.ensures (λ k. get_or values k 0) (ordered_first c.args.kind (λ k. get_or values k 0) 0) (at_position values)) in
     let other : Some c.in-Some.position ≡ None = sym c.in-Some.is ∙ sym found ∙ none in
     absurd cc
 
@@ -44,25 +44,25 @@ pub returns-then-is_err-clause-order : goal.returns-then-is_err-clause-order
 returns-then-is_err-clause-order g c = λ few.
     let values : List ℕ = c.args.values.now in
     let found = found_is c.args.kind values c.first_out.result
-    (c.first_out.ensures (λ k. get_or values k 0) (ordered_first c.args.kind (λ k. get_or values k 0) 0) (in_place values)) in
+    (c.first_out.ensures (λ k. get_or values k 0) (ordered_first c.args.kind (λ k. get_or values k 0) 0) (at_position values)) in
     rw (found, c.in_default.is) refl
 
 pub returns-clause-order : goal.returns-clause-order
 returns-clause-order g c = λ few.
     let values : List ℕ = c.args.values.now in
     let found = found_is c.args.kind values c.first_out.result
-    (c.first_out.ensures (λ k. get_or values k 0) (ordered_first c.args.kind (λ k. get_or values k 0) 0) (in_place values)) in
+    (c.first_out.ensures (λ k. get_or values k 0) (ordered_first c.args.kind (λ k. get_or values k 0) 0) (at_position values)) in
     rw (found, c.in_default.is) tt
 
 -- ---- room
 
 pub returns-then-is_err-clause-room : goal.returns-then-is_err-clause-room
-returns-then-is_err-clause-room g c = λ few none text list.
+returns-then-is_err-clause-room g c = λ few none encoding list.
     let full = on_err c.reserve.result (sym c.is_err.ensures.value ∙ c.if-is_err.true) c.reserve.ensures.full in
-    let long = length-text2 g.P.BitPacker.lanes c.args.kind c.args.values.now text g.met.P.BitPacker.some_lanes list in
-    let size = length-rest2 g.P.BitPacker.lanes (whole_blocks g.P.BitPacker.lanes (length c.args.values.now)) c.text_len.result
-    (4 * tail_values g.P.BitPacker.lanes (length c.args.values.now)) c.args.kind c.args.values.now (drop 7 text) g.met.P.BitPacker.some_lanes
-    c.text_len.ensures.len list.rest.whole.entries in
+    let long = length-encoding2 g.P.BitPacker.lanes c.args.kind c.args.values.now encoding g.met.P.BitPacker.some_lanes list in
+    let size = length-rest2 g.P.BitPacker.lanes (whole_blocks g.P.BitPacker.lanes (length c.args.values.now)) c.encoding_len.result
+    (4 * tail_values g.P.BitPacker.lanes (length c.args.values.now)) c.args.kind c.args.values.now (drop 7 encoding) g.met.P.BitPacker.some_lanes
+    c.encoding_len.ensures.len list.rest.whole.entries in
     omega (arith, full, long, size)
 
 -- What is in the vector, as long as it is.
@@ -79,16 +79,16 @@ write_entries-requires-clause-room g c =
     let room = on_ok c.reserve.result (sym c.is_err.ensures.value ∙ c.if-is_err.false) c.reserve.ensures.ok in
     let long = length-header_is g.P.BitPacker.lanes c.BLOCK_LEN.result (length c.args.values.now) c.args.kind c.args.out.now.items c.reserve.new.self.items
     c.write.new.out.items c.reserve.ensures.items (c.BLOCK_LEN.ensures ∙ g.met.P.BitPacker.block_len) c.write.ensures.items in
-    omega (arith, room, long, c.text_len.ensures.room, c.write.ensures.capacity, c.write.new.out.ok, c.args.out.now.ok, c.reserve.ensures.len)
+    omega (arith, room, long, c.encoding_len.ensures.room, c.write.ensures.capacity, c.write.new.out.ok, c.args.out.now.ok, c.reserve.ensures.len)
 
 pub write_bodies-requires-clause-room : goal.write_bodies-requires-clause-room
 write_bodies-requires-clause-room g c =
     let room = on_ok c.reserve.result (sym c.is_err.ensures.value ∙ c.if-is_err.false) c.reserve.ensures.ok in
     let long = length-header_is g.P.BitPacker.lanes c.BLOCK_LEN.result (length c.args.values.now) c.args.kind c.args.out.now.items c.reserve.new.self.items
     c.write.new.out.items c.reserve.ensures.items (c.BLOCK_LEN.ensures ∙ g.met.P.BitPacker.block_len) c.write.ensures.items in
-    let size = length-rest2 g.P.BitPacker.lanes (whole_blocks g.P.BitPacker.lanes (length c.args.values.now)) c.text_len.result
+    let size = length-rest2 g.P.BitPacker.lanes (whole_blocks g.P.BitPacker.lanes (length c.args.values.now)) c.encoding_len.result
     (4 * tail_values g.P.BitPacker.lanes (length c.args.values.now)) c.args.kind c.args.values.now
-    (drop (vec_len c.write.new.out) c.write_entries.new.out.items) g.met.P.BitPacker.some_lanes c.text_len.ensures.len c.write_entries.ensures.entries.entries in
+    (drop (vec_len c.write.new.out) c.write_entries.new.out.items) g.met.P.BitPacker.some_lanes c.encoding_len.ensures.len c.write_entries.ensures.entries.entries in
     rw c.len-start.ensures (omega (
       arith,
       room,
@@ -129,8 +129,8 @@ write_all-requires g c =
     let long = length-header_is lanes c.BLOCK_LEN.result (length values) c.args.kind c.args.out.now.items c.reserve.new.self.items front
     c.reserve.ensures.items (c.BLOCK_LEN.ensures ∙ g.met.P.BitPacker.block_len) c.write.ensures.items in
     let has = c.write_bodies.ensures.bodies in
-    let size = length-rest2 lanes (whole_blocks lanes (length values)) c.text_len.result (4 * tail_values lanes (length values)) c.args.kind values (drop start done)
-    g.met.P.BitPacker.some_lanes c.text_len.ensures.len has.entries in
+    let size = length-rest2 lanes (whole_blocks lanes (length values)) c.encoding_len.result (4 * tail_values lanes (length values)) c.args.kind values (drop start done)
+    g.met.P.BitPacker.some_lanes c.encoding_len.ensures.len has.entries in
     let tail = tail_is lanes c.BLOCK_LEN-2.result values (c.BLOCK_LEN-2.ensures ∙ g.met.P.BitPacker.block_len) in
     let over = length-tail lanes values g.met.P.BitPacker.some_lanes in
     let behind : length (drop (32 * lanes * whole_blocks lanes (length values)) values) ≡ tail_values lanes (length values) =
@@ -169,7 +169,7 @@ returns-clause-ok g c =
     let tail : List ℕ = bytes_of_words (drop (32 * lanes * blocks) values) in
     let rest : List ℕ = drop start done in
     let found = found_is kind values c.first_out.result
-    (c.first_out.ensures (λ k. get_or values k 0) (ordered_first kind (λ k. get_or values k 0) 0) (in_place values)) in
+    (c.first_out.ensures (λ k. get_or values k 0) (ordered_first kind (λ k. get_or values k 0) 0) (at_position values)) in
     let head = header_is lanes c.BLOCK_LEN.result (length values) kind old c.reserve.new.self.items front
     c.reserve.ensures.items (c.BLOCK_LEN.ensures ∙ g.met.P.BitPacker.block_len) c.write.ensures.items in
     let parts = parts_are start (vec_len c.write.new.out) front c.write_entries.new.out.items done c.len-start.ensures c.write_entries.ensures.front c.write_bodies.ensures.front in

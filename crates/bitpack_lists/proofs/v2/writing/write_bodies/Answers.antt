@@ -12,10 +12,10 @@ use Rattle.bitpack_lists.specs.inner.Opening.{HasBodies}
 use Rattle.bitpack_lists.specs.Version2.{block_of, kind_at, last_at, tail_start, width_at}
 use Rattle.bitpack_lists.proofs.lemmas.blocks.BlockLemmas.{AreWords-block_of, kind_at-next, next_block, next_left}
 use Rattle.bitpack_lists.proofs.lemmas.blocks.EntryLemmas.{bodies_step, body_end, kind_at-append, last_at-append, widths_before-append}
-use Rattle.bitpack_lists.proofs.lemmas.v1.OneText1.{narrow_least}
+use Rattle.bitpack_lists.proofs.lemmas.v1.OneEncoding1.{narrow_least}
 use Rattle.bitpack_lists.proofs.v2.writing.write_bodies.Goals as goal
 
--- The rest of the text, as the code lends it.
+-- The rest of the encoding, as the code lends it.
 lent : (start : ℕ) (items seen : List ℕ) → seen ≡ items → take (length seen - start) (drop start seen) ≡ drop start items
 lent start items seen e = take_all (length seen - start) (drop start seen) (omega (arith, length-drop start seen)) ∙ ap (drop start) e
 

@@ -6,7 +6,7 @@ use Rattle.bitpack_lists.proofs.lemmas.blocks.BlockLemmas.{few_blocks, next_bloc
 use Rattle.bitpack_lists.specs.Chains.{second_kind}
 use Rattle.bitpack_lists.specs.Parts.{whole_blocks}
 use Rattle.bitpack_lists.proofs.lemmas.blocks.EntryLemmas.{entered_step}
-use Rattle.bitpack_lists.proofs.lemmas.blocks.WriteSteps.{kept_first, kept_rest, last-block}
+use Rattle.bitpack_lists.proofs.lemmas.blocks.WriteSteps.{cached_first, cached_rest, last-block}
 use Rattle.bitpack_lists.proofs.v2.writing.write_entries.Goals as goal
 
 pub overflow_add-offset : goal.overflow_add-offset
@@ -29,9 +29,9 @@ width_of-width-requires g c =
     let below : i < blocks = rw whole at c.loop-index-test.true in
     record {
       block = c.split_at.ensures.front_len ∙ c.BLOCK_LEN-len.ensures;
-      kept = λ lt.
+      cached = λ lt.
           let inside : i < length (take blocks widths) = simp length-take (omega (arith, below)) in
-          let first = kept_first lanes c.loop-index.block_kind left (take blocks widths) i inside c.loop-index.invariant.least in
+          let first = cached_first lanes c.loop-index.block_kind left (take blocks widths) i inside c.loop-index.invariant.least in
           rw (block, ← get_or-take blocks widths i 0 below) first.0;
     }
 
@@ -57,7 +57,7 @@ loop-index-preserved g c =
     record {
       left = c.split_at.ensures.back ∙ next_left lanes c.BLOCK_LEN-len.result i values c.loop-index.left.now some whole before.left c.loop-index-test.true;
       entered = rw (new, c.next_kind-block_kind.ensures) next;
-      least = rw (next_kind_is, after) (kept_rest lanes c.loop-index.block_kind c.loop-index.left.now
+      least = rw (next_kind_is, after) (cached_rest lanes c.loop-index.block_kind c.loop-index.left.now
           (take (whole_blocks lanes (length values)) c.args.widths.now) i before.least);
       front = ap (take old) c.write.ensures.items ∙ take-append-le old c.loop-index.out.items _ (omega (arith, before.long)) ∙ before.front;
       long = ap length c.write.ensures.items ∙ length-append c.loop-index.out.items _ ∙ omega (arith, before.long);

@@ -14,13 +14,13 @@ loop-index-preserved g c =
     let turn = c.args.self.now in
     let f = g.T.AsTerm.its_word in
     let i = c.loop-index.index in
-    let place = 128 * c.args.block + i in
+    let position = 128 * c.args.block + i in
     let (few, best) = c.loop-index.invariant in
     let block = c.requires.block in
     let passed = c.pass_document-len in
     let at = c.at-id.ensures in
-    let next : place + 1 ≡ 128 * c.args.block + (i + 1) = omega arith in
-    let taken = passed.ensures.best place (record {
+    let next : position + 1 ≡ 128 * c.args.block + (i + 1) = omega arith in
+    let taken = passed.ensures.best position (record {
       within = omega (arith, c.loop-index-test.true, block.len);
       id = sym (at.id ∙ block.ids i (omega (arith, c.loop-index-test.true)));
       count = sym (at.count ∙ block.counts i (omega (arith, c.loop-index-test.true)));
@@ -28,7 +28,7 @@ loop-index-preserved g c =
       omega (arith, passed.ensures.len, passed.auto.found),
       subst (λ n. AreBest (IsPastIn (map f turn.before.now) (f turn.term.now) (map f turn.after.now) turn.classes.now turn.at_least n) (length passed.new.found)
           (take passed.result passed.new.found)) next (subst (λ k. AreBest (IsPastIn (map f turn.before.now) (f turn.term.now) (map f turn.after.now)
-          turn.classes.now turn.at_least (place + 1)) k (take passed.result passed.new.found)) (sym passed.auto.found) taken),
+          turn.classes.now turn.at_least (position + 1)) k (take passed.result passed.new.found)) (sym passed.auto.found) taken),
     )
 
 pub returns-clause-best : goal.returns-clause-best

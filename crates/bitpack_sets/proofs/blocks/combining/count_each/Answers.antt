@@ -11,18 +11,18 @@ use Rattle.bitpack_sets.specs.Selections.{word_highs}
 
 pub loop-word-init : goal.loop-word-init
 unfolding those
-loop-word-init c = omega arith
+loop-word-init g c = omega arith
 
 pub count_word-count-requires-clause-in_left : goal.count_word-count-requires-clause-in_left
-count_word-count-requires-clause-in_left c = λ lacks i small is.
+count_word-count-requires-clause-in_left g c = λ lacks i small is.
     c.highs-occur.ensures.in_left lacks (64 * c.loop-word.word + i) (omega arith) (sym (bit_in_word c.highs-occur.result c.loop-word.word i small) ∙ is)
 
 pub count_word-count-requires-clause-in_right : goal.count_word-count-requires-clause-in_right
-count_word-count-requires-clause-in_right c = λ lacks i small is.
+count_word-count-requires-clause-in_right g c = λ lacks i small is.
     c.highs-occur.ensures.in_right lacks (64 * c.loop-word.word + i) (omega arith) (sym (bit_in_word c.highs-occur.result c.loop-word.word i small) ∙ is)
 
 pub overflow_add-count : goal.overflow_add-count
-overflow_add-count c =
+overflow_add-count g c =
     let P = passes c.args.operation c.args.a.now c.args.b.now in
     let occur = c.highs-occur.result in
     let q = c.loop-word.word in
@@ -33,7 +33,7 @@ overflow_add-count c =
     omega (arith, c.loop-word.invariant, c.count_word-count.ensures)
 
 pub loop-word-preserved : goal.loop-word-preserved
-loop-word-preserved c =
+loop-word-preserved g c =
     let P = passes c.args.operation c.args.a.now c.args.b.now in
     let occur = c.highs-occur.result in
     let q = c.loop-word.word in
@@ -42,7 +42,7 @@ loop-word-preserved c =
     omega (arith, c.loop-word.invariant, c.count_word-count.ensures)
 
 pub returns : goal.returns
-returns c =
+returns g c =
     let P = passes c.args.operation c.args.a.now c.args.b.now in
     let occur = c.highs-occur in
     let end : 64 * c.loop-word.word ≡ 256 = omega arith in

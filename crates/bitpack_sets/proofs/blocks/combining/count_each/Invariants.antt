@@ -7,4 +7,4 @@ use Rattle.bitpack_sets.specs.Bitmaps.{has_bit}
 use Rattle.bitpack_sets.specs.Operations.{those}
 
 abbrev pub invariant-loop-word : goal.invariant-loop-word
-invariant-loop-word l = l.count ≡ length (by_high (passes l.operation l.a l.b) (those (64 * l.word) (has_bit l.occur)))
+invariant-loop-word g l = l.count ≡ length (by_high (passes l.operation l.a l.b) (those (64 * l.word) (has_bit l.occur)))

@@ -10,30 +10,30 @@ use Rattle.bitpack_sets.proofs.blocks.combining.count_word.Goals as goal
 use Rattle.bitpack_sets.specs.Selections.{numbers_at, parts_numbers}
 
 pub overflow_add-high : goal.overflow_add-high
-overflow_add-high c = let next = next_is c.loop-left.left (omega (arith, c.loop-left-test.true)) c.loop-left.auto.left-fits.fits in omega (arith, next.within, c.requires.within)
+overflow_add-high g c = let next = next_is c.loop-left.left (omega (arith, c.loop-left-test.true)) c.loop-left.auto.left-fits.fits in omega (arith, next.within, c.requires.within)
 
 pub slice_of-x-requires-clause-within : goal.slice_of-x-requires-clause-within
-slice_of-x-requires-clause-within c = let next = next_is c.loop-left.left (omega (arith, c.loop-left-test.true)) c.loop-left.auto.left-fits.fits in omega (arith, next.within, c.requires.within)
+slice_of-x-requires-clause-within g c = let next = next_is c.loop-left.left (omega (arith, c.loop-left-test.true)) c.loop-left.auto.left-fits.fits in omega (arith, next.within, c.requires.within)
 
 pub slice_of-y-requires-clause-within : goal.slice_of-y-requires-clause-within
-slice_of-y-requires-clause-within c = let next = next_is c.loop-left.left (omega (arith, c.loop-left-test.true)) c.loop-left.auto.left-fits.fits in omega (arith, next.within, c.requires.within)
+slice_of-y-requires-clause-within g c = let next = next_is c.loop-left.left (omega (arith, c.loop-left-test.true)) c.loop-left.auto.left-fits.fits in omega (arith, next.within, c.requires.within)
 
 pub slice_of-x-requires-clause-occurs : goal.slice_of-x-requires-clause-occurs
-slice_of-x-requires-clause-occurs c = λ e. let next = next_is c.loop-left.left (omega (arith, c.loop-left-test.true)) c.loop-left.auto.left-fits.fits in
-    c.requires.in_left (sym c.keeps_right.ensures ∙ not-true _ e) (trailing_zeros w64 c.loop-left.left) next.within (c.loop-left.invariant.bits (trailing_zeros w64 c.loop-left.left) (ap (λ (n : ℕ). eqb n 1) next.one))
+slice_of-x-requires-clause-occurs g c = λ e. let next = next_is c.loop-left.left (omega (arith, c.loop-left-test.true)) c.loop-left.auto.left-fits.fits in
+    c.requires.in_left (sym c.retains_right.ensures ∙ not-true _ e) (trailing_zeros w64 c.loop-left.left) next.within (c.loop-left.invariant.bits (trailing_zeros w64 c.loop-left.left) (ap (λ (n : ℕ). eqb n 1) next.one))
 
 pub slice_of-y-requires-clause-occurs : goal.slice_of-y-requires-clause-occurs
-slice_of-y-requires-clause-occurs c = λ e. let next = next_is c.loop-left.left (omega (arith, c.loop-left-test.true)) c.loop-left.auto.left-fits.fits in
-    c.requires.in_right (sym c.keeps_left.ensures ∙ not-true _ e) (trailing_zeros w64 c.loop-left.left) next.within (c.loop-left.invariant.bits (trailing_zeros w64 c.loop-left.left) (ap (λ (n : ℕ). eqb n 1) next.one))
+slice_of-y-requires-clause-occurs g c = λ e. let next = next_is c.loop-left.left (omega (arith, c.loop-left-test.true)) c.loop-left.auto.left-fits.fits in
+    c.requires.in_right (sym c.retains_left.ensures ∙ not-true _ e) (trailing_zeros w64 c.loop-left.left) next.within (c.loop-left.invariant.bits (trailing_zeros w64 c.loop-left.left) (ap (λ (n : ℕ). eqb n 1) next.one))
 
 pub loop-left-smaller : goal.loop-left-smaller
-loop-left-smaller c = let next = next_is c.loop-left.left (omega (arith, c.loop-left-test.true)) c.loop-left.auto.left-fits.fits in next.less
+loop-left-smaller g c = let next = next_is c.loop-left.left (omega (arith, c.loop-left-test.true)) c.loop-left.auto.left-fits.fits in next.less
 
 pub loop-left-init : goal.loop-left-init
-loop-left-init c = record { bits = λ k e. e; count = omega arith }
+loop-left-init g c = record { bits = λ k e. e; count = omega arith }
 
 pub overflow_add-count : goal.overflow_add-count
-overflow_add-count c =
+overflow_add-count g c =
     let a = c.args.a.now in
     let b = c.args.b.now in
     let P = passes c.args.operation a b in
@@ -47,7 +47,7 @@ overflow_add-count c =
     omega (arith, c.loop-left.invariant.count)
 
 pub loop-left-preserved : goal.loop-left-preserved
-loop-left-preserved c =
+loop-left-preserved g c =
     let a = c.args.a.now in
     let b = c.args.b.now in
     let P = passes c.args.operation a b in
@@ -59,7 +59,7 @@ loop-left-preserved c =
     record { bits = still_there left c.args.word c.loop-left.invariant.bits; count = omega (arith, c.loop-left.invariant.count) }
 
 pub returns : goal.returns
-returns c =
+returns g c =
     let P = passes c.args.operation c.args.a.now c.args.b.now in
     let none = ap length (none_left P c.args.first c.loop-left.left c.loop-left-test.false) in
     let all = ap length (word_numbers P c.args.first c.args.word c.requires.within) in

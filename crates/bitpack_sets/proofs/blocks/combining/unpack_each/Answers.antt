@@ -4,6 +4,7 @@ use Rattle.std.proofs.lemmas.List.{map-append}
 use Rattle.bitpack_sets.proofs.SelectionLaws.{listed, passes}
 use Rattle.bitpack_sets.proofs.UnpackLaws.{by_high}
 use Rattle.bitpack_sets.proofs.WordLaws.{bit_in_word, word_numbers, words_few, words_more}
+use Rattle.bitpack_sets.proofs.blocks.combining.unpack_each.Given.{Over}
 use Rattle.bitpack_sets.proofs.blocks.combining.unpack_each.Goals as goal
 use Rattle.bitpack_sets.specs.Bitmaps.{has_bit}
 use Rattle.bitpack_sets.specs.Operations.{those}
@@ -11,18 +12,18 @@ use Rattle.bitpack_sets.specs.Selections.{word_highs}
 
 pub loop-word-init : goal.loop-word-init
 unfolding those
-loop-word-init c = record { room = c.requires.start; count = omega arith; values = sym (append-nil (take c.args.at c.args.out.now)) }
+loop-word-init g c = record { room = c.requires.start; count = omega arith; values = sym (append-nil (take c.args.at c.args.out.now)) }
 
 pub unpack_word-requires-clause-in_left : goal.unpack_word-requires-clause-in_left
-unpack_word-requires-clause-in_left c = λ lacks i small is.
+unpack_word-requires-clause-in_left g c = λ lacks i small is.
     c.highs-occur.ensures.in_left lacks (64 * c.loop-word.word + i) (omega arith) (sym (bit_in_word c.highs-occur.result c.loop-word.word i small) ∙ is)
 
 pub unpack_word-requires-clause-in_right : goal.unpack_word-requires-clause-in_right
-unpack_word-requires-clause-in_right c = λ lacks i small is.
+unpack_word-requires-clause-in_right g c = λ lacks i small is.
     c.highs-occur.ensures.in_right lacks (64 * c.loop-word.word + i) (omega arith) (sym (bit_in_word c.highs-occur.result c.loop-word.word i small) ∙ is)
 
 pub loop-word-preserved : goal.loop-word-preserved
-loop-word-preserved c =
+loop-word-preserved g c =
     let P = passes c.args.operation c.args.a.now c.args.b.now in
     let occur = c.highs-occur.result in
     let q = c.loop-word.word in
@@ -43,7 +44,7 @@ loop-word-preserved c =
     }
 
 pub returns-in_err-next-clause-none : goal.returns-in_err-next-clause-none
-returns-in_err-next-clause-none c = λ e.
+returns-in_err-next-clause-none g c = λ e.
     let P = passes c.args.operation c.args.a.now c.args.b.now in
     let occur = c.highs-occur.result in
     let q = c.loop-word.word in
@@ -56,9 +57,9 @@ returns-in_err-next-clause-none c = λ e.
     omega (arith, c.loop-word.invariant.count, c.loop-word.auto.out)
 
 -- the words are all
-done : (c : goal.After-loop-word) → by_high (passes c.args.operation c.args.a.now c.args.b.now) (those (64 * c.loop-word.word) (has_bit c.highs-occur.result))
+done : (g : Over) (c : goal.After-loop-word g) → by_high (passes c.args.operation c.args.a.now c.args.b.now) (those (64 * c.loop-word.word) (has_bit c.highs-occur.result))
     ≡ those 65536 (passes c.args.operation c.args.a.now c.args.b.now)
-done c =
+done g c =
     let P = passes c.args.operation c.args.a.now c.args.b.now in
     let occur = c.highs-occur in
     let end : 64 * c.loop-word.word ≡ 256 = omega arith in
@@ -66,7 +67,7 @@ done c =
     ∙ sym (listed c.args.operation c.args.a.now c.args.b.now occur.result occur.ensures.both occur.ensures.left occur.ensures.right)
 
 pub returns-clause-end : goal.returns-clause-end
-returns-clause-end c = c.loop-word.invariant.count ∙ ap (λ (l : List ℕ). c.args.at + length l) (done c)
+returns-clause-end g c = c.loop-word.invariant.count ∙ ap (λ (l : List ℕ). c.args.at + length l) (done g c)
 
 pub returns-clause-values : goal.returns-clause-values
-returns-clause-values c = c.loop-word.invariant.values ∙ ap (λ (l : List ℕ). take c.args.at c.args.out.now ++ map (λ i. c.args.base + i) l) (done c)
+returns-clause-values g c = c.loop-word.invariant.values ∙ ap (λ (l : List ℕ). take c.args.at c.args.out.now ++ map (λ i. c.args.base + i) l) (done g c)

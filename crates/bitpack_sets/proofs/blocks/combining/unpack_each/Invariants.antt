@@ -7,7 +7,7 @@ use Rattle.bitpack_sets.specs.Bitmaps.{has_bit}
 use Rattle.bitpack_sets.specs.Operations.{those}
 
 abbrev pub invariant-loop-word : goal.invariant-loop-word
-invariant-loop-word l = record {
+invariant-loop-word g l = record {
   room : l.next ≤ length l.out;
   count : l.next ≡ l.at + length (by_high (passes l.operation l.a l.b) (those (64 * l.word) (has_bit l.occur)));
   values : take l.next l.out ≡ take l.at l.fn.out ++ map (λ i. l.base + i) (by_high (passes l.operation l.a l.b) (those (64 * l.word) (has_bit l.occur)));

@@ -7,72 +7,73 @@ use Rattle.bitpack_sets.proofs.BitmapLaws.{those_few}
 use Rattle.bitpack_sets.proofs.SelectionLaws.{IsUnpacked, lows_combined, no_numbers, only_left, only_right, passes, unpacked_as, unpacked_at}
 use Rattle.bitpack_sets.proofs.UnpackLaws.{by_high, lows}
 use Rattle.bitpack_sets.proofs.WordLaws.{none_left, still_there, word_counted, word_numbers, word_written}
+use Rattle.bitpack_sets.proofs.blocks.combining.unpack_word.Given.{Over}
 use Rattle.bitpack_sets.proofs.blocks.combining.unpack_word.Goals as goal
-use Rattle.bitpack_sets.proofs.blocks.combining.unpack_word.Goals.{then-out-next-lt256+in_ok-next, else-out-next-lt256+then-y-eq0+then-keeps_left, else-out-next-lt256+else-y-eq0+then-x-eq0+then-keeps_right, else-out-next-lt256+else-y-eq0+else-x-eq0+then-few-lt32+then-not-keeps_right, else-out-next-lt256+else-y-eq0+else-x-eq0+else-few-lt32}
+use Rattle.bitpack_sets.proofs.blocks.combining.unpack_word.Goals.{then-out-next-lt256+in_ok-next, else-out-next-lt256+then-y-eq0+then-retains_left, else-out-next-lt256+else-y-eq0+then-x-eq0+then-retains_right, else-out-next-lt256+else-y-eq0+else-x-eq0+then-few-lt32+then-not-retains_right, else-out-next-lt256+else-y-eq0+else-x-eq0+else-few-lt32}
 use Rattle.bitpack_sets.specs.Bitmaps.{has_bit}
-use Rattle.bitpack_sets.specs.Operations.{combined, holds, those}
+use Rattle.bitpack_sets.specs.Operations.{apply, combined, those}
 use Rattle.bitpack_sets.specs.Reads.{has}
 use Rattle.bitpack_sets.specs.Selections.{numbers_at, parts_numbers, word_highs}
 
 pub overflow_add-high : goal.overflow_add-high
-overflow_add-high c = let next = next_is c.loop-left.left (omega (arith, c.loop-left-test.true)) c.loop-left.auto.left-fits.fits in omega (arith, next.within, c.requires.within)
+overflow_add-high g c = let next = next_is c.loop-left.left (omega (arith, c.loop-left-test.true)) c.loop-left.auto.left-fits.fits in omega (arith, next.within, c.requires.within)
 
 pub slice_of-x-requires-clause-within : goal.slice_of-x-requires-clause-within
-slice_of-x-requires-clause-within c = let next = next_is c.loop-left.left (omega (arith, c.loop-left-test.true)) c.loop-left.auto.left-fits.fits in omega (arith, next.within, c.requires.within)
+slice_of-x-requires-clause-within g c = let next = next_is c.loop-left.left (omega (arith, c.loop-left-test.true)) c.loop-left.auto.left-fits.fits in omega (arith, next.within, c.requires.within)
 
 pub slice_of-y-requires-clause-within : goal.slice_of-y-requires-clause-within
-slice_of-y-requires-clause-within c = let next = next_is c.loop-left.left (omega (arith, c.loop-left-test.true)) c.loop-left.auto.left-fits.fits in omega (arith, next.within, c.requires.within)
+slice_of-y-requires-clause-within g c = let next = next_is c.loop-left.left (omega (arith, c.loop-left-test.true)) c.loop-left.auto.left-fits.fits in omega (arith, next.within, c.requires.within)
 
 pub slice_of-x-requires-clause-occurs : goal.slice_of-x-requires-clause-occurs
-slice_of-x-requires-clause-occurs c = λ e. let next = next_is c.loop-left.left (omega (arith, c.loop-left-test.true)) c.loop-left.auto.left-fits.fits in
-    c.requires.in_left (sym c.keeps_right.ensures ∙ not-true _ e) (trailing_zeros w64 c.loop-left.left) next.within (c.loop-left.invariant.bits (trailing_zeros w64 c.loop-left.left) (ap (λ (n : ℕ). eqb n 1) next.one))
+slice_of-x-requires-clause-occurs g c = λ e. let next = next_is c.loop-left.left (omega (arith, c.loop-left-test.true)) c.loop-left.auto.left-fits.fits in
+    c.requires.in_left (sym c.retains_right.ensures ∙ not-true _ e) (trailing_zeros w64 c.loop-left.left) next.within (c.loop-left.invariant.bits (trailing_zeros w64 c.loop-left.left) (ap (λ (n : ℕ). eqb n 1) next.one))
 
 pub slice_of-y-requires-clause-occurs : goal.slice_of-y-requires-clause-occurs
-slice_of-y-requires-clause-occurs c = λ e. let next = next_is c.loop-left.left (omega (arith, c.loop-left-test.true)) c.loop-left.auto.left-fits.fits in
-    c.requires.in_right (sym c.keeps_left.ensures ∙ not-true _ e) (trailing_zeros w64 c.loop-left.left) next.within (c.loop-left.invariant.bits (trailing_zeros w64 c.loop-left.left) (ap (λ (n : ℕ). eqb n 1) next.one))
+slice_of-y-requires-clause-occurs g c = λ e. let next = next_is c.loop-left.left (omega (arith, c.loop-left-test.true)) c.loop-left.auto.left-fits.fits in
+    c.requires.in_right (sym c.retains_left.ensures ∙ not-true _ e) (trailing_zeros w64 c.loop-left.left) next.within (c.loop-left.invariant.bits (trailing_zeros w64 c.loop-left.left) (ap (λ (n : ℕ). eqb n 1) next.one))
 
 pub loop-left-smaller : goal.loop-left-smaller
-loop-left-smaller c = let next = next_is c.loop-left.left (omega (arith, c.loop-left-test.true)) c.loop-left.auto.left-fits.fits in next.less
+loop-left-smaller g c = let next = next_is c.loop-left.left (omega (arith, c.loop-left-test.true)) c.loop-left.auto.left-fits.fits in next.less
 
 pub loop-left-init : goal.loop-left-init
-loop-left-init c = record { bits = λ k e. e; room = c.requires.start; count = refl; values = refl }
+loop-left-init g c = record { bits = λ k e. e; room = c.requires.start; count = refl; values = refl }
 
 -- what the loop writes for a high byte
-own_written : (c : goal.Joined-out-next-lt256) → IsUnpacked (c.args.base + 256 * (c.args.first + trailing_zeros w64 c.loop-left.left))
+own_written : (g : Over) (c : goal.Joined-out-next-lt256 g) → IsUnpacked (c.args.base + 256 * (c.args.first + trailing_zeros w64 c.loop-left.left))
     (combined 256 c.args.operation (numbers_at c.slice_of-x.result) (numbers_at c.slice_of-y.result))
     c.loop-left.out c.if-out-next-lt256.out c.loop-left.next c.if-out-next-lt256.next
-own_written c =
+own_written g c =
     let x = c.slice_of-x.result in
     let y = c.slice_of-y.result in
     let op = c.args.operation in
     let base : ℕ = c.args.base + 256 * (c.args.first + trailing_zeros w64 c.loop-left.left) in
     let all : List ℕ = combined 256 op (numbers_at x) (numbers_at y) in
-    let few = those_few 256 (λ i. holds op (has i (numbers_at x)) (has i (numbers_at y))) in
+    let few = those_few 256 (λ i. apply op (has i (numbers_at x)) (has i (numbers_at y))) in
     elim c.if-out-next-lt256.branch [
       | then-out-next-lt256+in_ok-next w ↦ unpacked_at base all _ _ _ _ _ _ w.out-is w.next-is
           (unpacked_as base all all _ _ _ _ refl w.in_ok-next.ensures.end w.in_ok-next.ensures.room w.in_ok-next.ensures.values)
-      | else-out-next-lt256+then-y-eq0+then-keeps_left w ↦
+      | else-out-next-lt256+then-y-eq0+then-retains_left w ↦
           let size = x.there.slice.count_is in
           let most = x.there.few in
           let room = w.if-out-next-lt256.false in
           unpacked_at base all _ _ _ _ _ _ w.out-is w.next-is
           (unpacked_as base (numbers_at x) all _ _ _ _ (only_left op (numbers_at x) (numbers_at y) x.there.slice.rising
-          (no_numbers y.slices.now y.start y.count w.if-y-eq0.true) (sym w.keeps_left-then-y-eq0.ensures ∙ w.if-keeps_left.true))
+          (no_numbers y.slices.now y.start y.count w.if-y-eq0.true) (sym w.retains_left-then-y-eq0.ensures ∙ w.if-retains_left.true))
           (omega (arith, w.unpack.ensures.end)) (omega (arith, w.unpack.ensures.end, c.loop-left.invariant.room)) w.unpack.ensures.values)
-      | else-out-next-lt256+else-y-eq0+then-x-eq0+then-keeps_right w ↦
+      | else-out-next-lt256+else-y-eq0+then-x-eq0+then-retains_right w ↦
           let size = y.there.slice.count_is in
           let most = y.there.few in
           let room = w.if-out-next-lt256.false in
           unpacked_at base all _ _ _ _ _ _ w.out-is w.next-is
           (unpacked_as base (numbers_at y) all _ _ _ _ (only_right op (numbers_at x) (numbers_at y) y.there.slice.rising
-          (no_numbers x.slices.now x.start x.count w.if-x-eq0.true) (sym w.keeps_right-then-x-eq0.ensures ∙ w.if-keeps_right.true))
-          (omega (arith, w.unpack-then-keeps_right.ensures.end)) (omega (arith, w.unpack-then-keeps_right.ensures.end, c.loop-left.invariant.room)) w.unpack-then-keeps_right.ensures.values)
-      | else-out-next-lt256+else-y-eq0+else-x-eq0+then-few-lt32+then-not-keeps_right w ↦
+          (no_numbers x.slices.now x.start x.count w.if-x-eq0.true) (sym w.retains_right-then-x-eq0.ensures ∙ w.if-retains_right.true))
+          (omega (arith, w.unpack-then-retains_right.ensures.end)) (omega (arith, w.unpack-then-retains_right.ensures.end, c.loop-left.invariant.room)) w.unpack-then-retains_right.ensures.values)
+      | else-out-next-lt256+else-y-eq0+else-x-eq0+then-few-lt32+then-not-retains_right w ↦
           let same = ap length c.fewer_first.ensures.numbers in
           let room = w.if-out-next-lt256.false in
           unpacked_at base all _ _ _ _ _ _ w.out-is w.next-is
           (unpacked_as base (combined 256 op (numbers_at c.fewer_first.result.0) (numbers_at c.fewer_first.result.1)) all _ _ _ _ c.fewer_first.ensures.numbers
-          w.unpack_marked.ensures.end (omega (arith, w.unpack_marked.ensures.end, c.loop-left.invariant.room)) w.unpack_marked.ensures.values)
+          w.unpack_matches.ensures.end (omega (arith, w.unpack_matches.ensures.end, c.loop-left.invariant.room)) w.unpack_matches.ensures.values)
       | else-out-next-lt256+else-y-eq0+else-x-eq0+else-few-lt32 w ↦
           let same = ap length w.combined_bits.ensures in
           let room = w.if-out-next-lt256.false in
@@ -82,7 +83,7 @@ own_written c =
     ]
 
 pub loop-left-preserved : goal.loop-left-preserved
-loop-left-preserved c =
+loop-left-preserved g c =
     let a = c.args.a.now in
     let b = c.args.b.now in
     let P = passes c.args.operation a b in
@@ -91,7 +92,7 @@ loop-left-preserved c =
     let some : 0 < left = omega (arith, c.loop-left-test.true) in
     let small = c.loop-left.auto.left-fits.fits in
     let high : ℕ = first + trailing_zeros w64 left in
-    let written = own_written c in
+    let written = own_written g c in
     let numbers = lows_combined c.args.operation high (numbers_at c.slice_of-x.result) (numbers_at c.slice_of-y.result) (parts_numbers a) (parts_numbers b) c.slice_of-x.ensures c.slice_of-y.ensures in
     let own = ap length numbers in
     let more = word_counted P first left some small in
@@ -111,7 +112,7 @@ loop-left-preserved c =
     }
 
 pub returns-in_err-next-clause-none : goal.returns-in_err-next-clause-none
-returns-in_err-next-clause-none c = λ e.
+returns-in_err-next-clause-none g c = λ e.
     let a = c.args.a.now in
     let b = c.args.b.now in
     let P = passes c.args.operation a b in
@@ -125,14 +126,14 @@ returns-in_err-next-clause-none c = λ e.
     omega (arith, c.loop-left.invariant.count, c.loop-left.auto.out)
 
 pub returns-clause-end : goal.returns-clause-end
-returns-clause-end c =
+returns-clause-end g c =
     let P = passes c.args.operation c.args.a.now c.args.b.now in
     let none = ap length (none_left P c.args.first c.loop-left.left c.loop-left-test.false) in
     let all = ap length (word_numbers P c.args.first c.args.word c.requires.within) in
     omega (arith, c.loop-left.invariant.count)
 
 pub returns-clause-values : goal.returns-clause-values
-returns-clause-values c =
+returns-clause-values g c =
     let P = passes c.args.operation c.args.a.now c.args.b.now in
     let f : List ℕ → List ℕ = λ xs. map (λ i. c.args.base + i) xs in
     let front = take c.loop-left.next c.loop-left.out in

@@ -7,7 +7,7 @@ use Rattle.bitpack_sets.proofs.blocks.combining.unpack_word.Given as goal
 use Rattle.bitpack_sets.specs.Selections.{word_highs}
 
 abbrev pub invariant-loop-left : goal.invariant-loop-left
-invariant-loop-left l = record {
+invariant-loop-left g l = record {
   bits : (k : ℕ) → eqb (bit_at l.left k) 1 ≡ true → eqb (bit_at l.word k) 1 ≡ true;
   room : l.next ≤ length l.out;
   count : l.next + length (by_high (passes l.operation l.a l.b) (word_highs l.first l.left)) ≡ l.at + length (by_high (passes l.operation l.a l.b) (word_highs l.first l.word));
@@ -16,4 +16,4 @@ invariant-loop-left l = record {
 }
 
 abbrev pub decreases-loop-left : goal.decreases-loop-left
-decreases-loop-left l = l.left
+decreases-loop-left g l = l.left

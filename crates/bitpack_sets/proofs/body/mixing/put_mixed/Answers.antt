@@ -13,16 +13,16 @@ returns-then-test_bit c =
     ∙ some_mixed c.args.operation c.args.others.now c.args.words.now (numbers_at c.args.slice) c.bits.result c.args.high (sym c.test_bit.ensures ∙ c.if-test_bit.true) c.bits.ensures))
     c.put_bits.ensures
 
-pub returns-then-not-keeps_left : goal.returns-then-not-keeps_left
-returns-then-not-keeps_left c =
+pub returns-then-not-retains_left : goal.returns-then-not-retains_left
+returns-then-not-retains_left c =
     follow_as [] _ c.args.out.now c.args.out.now c.args.at c.args.at
-    (ap (map (λ i. c.args.base + i)) (sym (none_given c.args.operation c.args.others.now c.args.words.now (numbers_at c.args.slice) c.args.high (sym c.test_bit.ensures ∙ c.if-test_bit.false) (sym c.keeps_left.ensures ∙ c.if-not-keeps_left.true))))
+    (ap (map (λ i. c.args.base + i)) (sym (none_given c.args.operation c.args.others.now c.args.words.now (numbers_at c.args.slice) c.args.high (sym c.test_bit.ensures ∙ c.if-test_bit.false) (sym c.retains_left.ensures ∙ c.if-not-retains_left.true))))
     (follow_none c.args.out.now c.args.at)
 
 pub returns : goal.returns
 returns c =
     let own = numbers_at c.args.slice in
     follow_as _ _ c.args.out.now c.put_alone.new.out c.args.at c.put_alone.result
-    (ap (map (λ i. c.args.base + i)) (only_left c.args.operation own [] c.args.slice.there.slice.rising refl (sym c.keeps_left.ensures ∙ c.if-not-keeps_left.false)
+    (ap (map (λ i. c.args.base + i)) (only_left c.args.operation own [] c.args.slice.there.slice.rising refl (sym c.retains_left.ensures ∙ c.if-not-retains_left.false)
     ∙ none_mixed c.args.operation c.args.others.now c.args.words.now own [] c.args.high (sym c.test_bit.ensures ∙ c.if-test_bit.false) refl))
     c.put_alone.ensures

@@ -7,8 +7,8 @@ abbrev pub invariant-loop-i : goal.invariant-loop-i
 invariant-loop-i l = record {
   few : l.next + numbers_in (drop l.i l.counts) ≡ l.at + numbers_in l.counts;
   long : length l.out ≡ length l.fn.out;
-  within : l.place ≤ length (take (slices_len l.counts) l.rest);
-  are : AreSlices (drop l.i l.counts) (drop l.place (take (slices_len l.counts) l.rest));
-  values : take l.next l.out ++ map (λ i. l.base + i) (numbers_of (drop l.i (slice_numbers (length l.counts) l.highs)) (drop l.i l.counts) (drop l.place (take (slices_len l.counts) l.rest)))
+  within : l.offset ≤ length (take (slices_len l.counts) l.rest);
+  are : AreSlices (drop l.i l.counts) (drop l.offset (take (slices_len l.counts) l.rest));
+  values : take l.next l.out ++ map (λ i. l.base + i) (numbers_of (drop l.i (slice_numbers (length l.counts) l.highs)) (drop l.i l.counts) (drop l.offset (take (slices_len l.counts) l.rest)))
       ≡ take l.at l.fn.out ++ map (λ i. l.base + i) (numbers_of (slice_numbers (length l.counts) l.highs) l.counts (take (slices_len l.counts) l.rest));
 }

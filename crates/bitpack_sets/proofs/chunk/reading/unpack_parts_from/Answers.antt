@@ -6,7 +6,7 @@ use borrow.Rule.Slice.PartMut.{same_len_mid}
 use Rattle.bitpack_sets.proofs.BlockReads.{slice_there}
 use Rattle.bitpack_sets.proofs.CutLaws.{slice_cut}
 use Rattle.bitpack_sets.proofs.DecodeLaws.{first_at, rising_top}
-use Rattle.bitpack_sets.proofs.ReadLaws.{place_fits}
+use Rattle.bitpack_sets.proofs.ReadLaws.{offset_fits}
 use Rattle.bitpack_sets.proofs.RangeLaws.{AtSlice, map_range, min_less, part_written, slice_passed, slice_range}
 use Rattle.bitpack_sets.proofs.chunk.reading.unpack_parts_from.Goals as goal
 use Rattle.bitpack_sets.specs.Slices.{IsSlice, numbers_of, slice_numbers, slices_len}
@@ -45,21 +45,21 @@ unpack_slice_from-requires-clause-fits c =
 pub overflow_add-slice : goal.overflow_add-slice
 overflow_add-slice c =
     let at = c.loop-next.invariant.here c.loop-next-test.true in
-    let fits = place_fits c.loop-next.index c.args.counts.now c.args.slices.now c.requires.slices at.within in
-    omega (arith, at.place_is, c.byte_len-size.ensures)
+    let fits = offset_fits c.loop-next.index c.args.counts.now c.args.slices.now c.requires.slices at.within in
+    omega (arith, at.offset_is, c.byte_len-size.ensures)
 
 pub slice_bounds-slice-end : goal.slice_bounds-slice-end
 slice_bounds-slice-end c =
     let at = c.loop-next.invariant.here c.loop-next-test.true in
-    let fits = place_fits c.loop-next.index c.args.counts.now c.args.slices.now c.requires.slices at.within in
-    omega (arith, at.place_is, c.byte_len-size.ensures)
+    let fits = offset_fits c.loop-next.index c.args.counts.now c.args.slices.now c.requires.slices at.within in
+    omega (arith, at.offset_is, c.byte_len-size.ensures)
 
 pub unpack_slice_from-requires-clause-slice : goal.unpack_slice_from-requires-clause-slice
 unpack_slice_from-requires-clause-slice c =
     let at = c.loop-next.invariant.here c.loop-next-test.true in
     let index : ℕ = c.loop-next.index in
     let counts : List ℕ = c.args.counts.now in
-    let cut = slice_cut (get_or counts index 0 + 1) c.loop-next.place c.byte_len-size.result (slices_len (take index counts)) c.args.slices.now at.place_is c.byte_len-size.ensures in
+    let cut = slice_cut (get_or counts index 0 + 1) c.loop-next.offset c.byte_len-size.result (slices_len (take index counts)) c.args.slices.now at.offset_is c.byte_len-size.ensures in
     subst (IsSlice (get_or counts index 0 + 1)) (sym cut) (slice_there index counts c.args.slices.now c.requires.slices at.within)
 
 pub loop-next-init : goal.loop-next-init
@@ -69,7 +69,7 @@ loop-next-init c = record {
   here = λ some. record {
     within = c.slice_of-index.ensures.slice;
     own = c.slice_of-index.ensures.own;
-    place_is = c.place_of_slice-place.ensures;
+    offset_is = c.offset_of_slice-offset.ensures;
     passed = omega (arith, c.slice_of-index.ensures.position);
   };
   values = refl;
@@ -85,7 +85,7 @@ loop-next-preserved c =
     let index : ℕ = c.loop-next.index in
     let left : ℕ = c.loop-next.left in
     let next : ℕ = c.loop-next.next in
-    let place : ℕ = c.loop-next.place in
+    let offset : ℕ = c.loop-next.offset in
     let size : ℕ = c.byte_len-size.result in
     let wanted : ℕ = c.min-wanted.result in
     let count : ℕ = get_or counts index 0 + 1 in
@@ -98,12 +98,12 @@ loop-next-preserved c =
     let few = c.min-wanted.ensures in
     let mid : length (take (next + wanted - next) (drop next out)) ≡ wanted = lent_len next wanted out (omega arith) in
     let same = same_len_mid next (next + wanted - next) out c.unpack_slice_from.new.out c.unpack_slice_from.auto.out in
-    let cut = slice_cut count place size (slices_len (take index counts)) slices at.place_is c.byte_len-size.ensures in
+    let cut = slice_cut count offset size (slices_len (take index counts)) slices at.offset_is c.byte_len-size.ensures in
     let many : length hs ≡ length counts = c.requires.highs.count_is in
     let first = first_at c.unpack_slice.result index c.unpack_slice.new.out hs c.unpack_slice.ensures.values (omega (arith, many, at.within)) in
     let part = c.unpack_slice_from.ensures
-    ∙ ap (λ (k : ℕ). map (λ i. base + 256 * get_or c.unpack_slice.new.out index 0 + i) (take k (drop left (slice_numbers count (take (place + size - place) (drop place slices)))))) mid
-    ∙ ap (λ (h : ℕ). map (λ i. base + 256 * h + i) (take wanted (drop left (slice_numbers count (take (place + size - place) (drop place slices)))))) first
+    ∙ ap (λ (k : ℕ). map (λ i. base + 256 * get_or c.unpack_slice.new.out index 0 + i) (take k (drop left (slice_numbers count (take (offset + size - offset) (drop offset slices)))))) mid
+    ∙ ap (λ (h : ℕ). map (λ i. base + 256 * h + i) (take wanted (drop left (slice_numbers count (take (offset + size - offset) (drop offset slices)))))) first
     ∙ ap (λ (l : List ℕ). map (λ i. base + 256 * get_or hs index 0 + i) (take wanted (drop left (slice_numbers count l)))) cut
     ∙ sym (slice_range base index left wanted (c.args.from + next) hs counts slices c.requires.highs.count_is c.requires.slices at.within (omega arith) at.passed) in
     record {
@@ -113,7 +113,7 @@ loop-next-preserved c =
           let w : wanted ≡ count - left = few ∙ min_less (count - left) (length out - next) (omega arith) in
           let after : c.args.from + next + wanted ≡ c.args.from + (next + wanted) = omega arith in
           let room = c.requires.within in
-          subst (AtSlice counts (index + 1) 0 (place + size)) after (slice_passed counts index left place (c.args.from + next) wanted size at c.byte_len-size.ensures w (omega arith));
+          subst (AtSlice counts (index + 1) 0 (offset + size)) after (slice_passed counts index left offset (c.args.from + next) wanted size at c.byte_len-size.ensures w (omega arith));
       values = part_written next wanted (next + wanted - next) c.args.from out c.unpack_slice_from.new.out (map (λ i. base + i) (numbers_of hs counts slices)) within (c.unpack_slice_from.auto.out ∙ mid)
           c.loop-next.invariant.values part;
     }

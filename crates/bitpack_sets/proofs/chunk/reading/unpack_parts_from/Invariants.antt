@@ -8,7 +8,7 @@ abbrev pub invariant-loop-next : goal.invariant-loop-next
 invariant-loop-next l = record {
   long : length l.out ≡ length l.fn.out;
   within : l.next ≤ length l.out;
-  here : l.next < length l.out → AtSlice l.counts l.index l.left l.place (l.from + l.next);
+  here : l.next < length l.out → AtSlice l.counts l.index l.left l.offset (l.from + l.next);
   values : take l.next l.out ≡ take l.next (drop l.from (map (λ i. l.base + i) (numbers_of (slice_numbers (length l.counts) l.highs) l.counts l.slices)));
 }
 

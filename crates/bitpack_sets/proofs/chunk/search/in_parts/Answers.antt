@@ -1,7 +1,7 @@
--- The rank of the high byte is the place of its slice.
+-- The rank of the high byte is the position of its slice.
 use Rattle.std.proofs.Common.{◌≡◌, ◌∙◌, ◌+◌, ◌/◌, ◌%◌, ℕ, List, ap, sym, arith, length, take, get_or}
 use Rattle.bitpack_sets.proofs.CutLaws.{slice_cut}
-use Rattle.bitpack_sets.proofs.ReadLaws.{in_numbers, not_in, place_fits, rank_less}
+use Rattle.bitpack_sets.proofs.ReadLaws.{in_numbers, not_in, offset_fits, rank_less}
 use Rattle.bitpack_sets.proofs.chunk.search.in_parts.Goals as goal
 use Rattle.bitpack_sets.specs.Reads.{has}
 use Rattle.bitpack_sets.specs.Slices.{slice_numbers, slices_len}
@@ -10,8 +10,8 @@ pub returns-then-not-in_slice : goal.returns-then-not-in_slice
 returns-then-not-in_slice c = sym (not_in c.args.number (slice_numbers (length c.args.counts.now) c.args.highs.now) c.args.counts.now c.args.slices.now c.requires.slices
     (sym c.in_slice.ensures ∙ c.if-not-in_slice.true))
 
-pub place_of_slice-place-requires-clause-within : goal.place_of_slice-place-requires-clause-within
-place_of_slice-place-requires-clause-within c =
+pub offset_of_slice-offset-requires-clause-within : goal.offset_of_slice-offset-requires-clause-within
+offset_of_slice-offset-requires-clause-within c =
     let few = rank_less (c.args.number / 256) (slice_numbers (length c.args.counts.now) c.args.highs.now) (sym c.in_slice.ensures ∙ c.if-not-in_slice.false) in
     let size = c.requires.highs.count_is in
     omega arith
@@ -22,18 +22,18 @@ bounds-counts-index c =
     let size = c.requires.highs.count_is in
     omega arith
 
-pub overflow_add-place : goal.overflow_add-place
-overflow_add-place c =
+pub overflow_add-offset : goal.overflow_add-offset
+overflow_add-offset c =
     let few = rank_less (c.args.number / 256) (slice_numbers (length c.args.counts.now) c.args.highs.now) (sym c.in_slice.ensures ∙ c.if-not-in_slice.false) in
     let size = c.requires.highs.count_is in
-    let fits = place_fits c.rank_in_slice-index.result c.args.counts.now c.args.slices.now c.requires.slices (omega arith) in
+    let fits = offset_fits c.rank_in_slice-index.result c.args.counts.now c.args.slices.now c.requires.slices (omega arith) in
     omega arith
 
 pub slice_bounds-in_slice-end : goal.slice_bounds-in_slice-end
 slice_bounds-in_slice-end c =
     let few = rank_less (c.args.number / 256) (slice_numbers (length c.args.counts.now) c.args.highs.now) (sym c.in_slice.ensures ∙ c.if-not-in_slice.false) in
     let size = c.requires.highs.count_is in
-    let fits = place_fits c.rank_in_slice-index.result c.args.counts.now c.args.slices.now c.requires.slices (omega arith) in
+    let fits = offset_fits c.rank_in_slice-index.result c.args.counts.now c.args.slices.now c.requires.slices (omega arith) in
     omega arith
 
 pub returns : goal.returns
@@ -42,6 +42,6 @@ returns c =
     let found = in_numbers c.args.number 0 c.rank_in_slice-index.result (slice_numbers (length c.args.counts.now) c.args.highs.now) c.args.counts.now c.args.slices.now
     c.rank_in_slice-index.ensures size c.requires.highs.rising c.requires.slices (sym c.in_slice.ensures ∙ c.if-not-in_slice.false) in
     c.in_slice-2.ensures
-    ∙ ap (λ (l : List ℕ). has (c.args.number % 256) (slice_numbers (get_or c.args.counts.now c.rank_in_slice-index.result 0 + 1) l)) (slice_cut (get_or c.args.counts.now c.rank_in_slice-index.result 0 + 1) c.place_of_slice-place.result c.byte_len-size.result
-    (slices_len (take c.rank_in_slice-index.result c.args.counts.now)) c.args.slices.now c.place_of_slice-place.ensures c.byte_len-size.ensures)
+    ∙ ap (λ (l : List ℕ). has (c.args.number % 256) (slice_numbers (get_or c.args.counts.now c.rank_in_slice-index.result 0 + 1) l)) (slice_cut (get_or c.args.counts.now c.rank_in_slice-index.result 0 + 1) c.offset_of_slice-offset.result c.byte_len-size.result
+    (slices_len (take c.rank_in_slice-index.result c.args.counts.now)) c.args.slices.now c.offset_of_slice-offset.ensures c.byte_len-size.ensures)
     ∙ sym found

@@ -4,13 +4,13 @@ use Rattle.std.proofs.lemmas.List.{length-take-le}
 use Rattle.bitpack_sets.proofs.BlockReads.{numbers_few, rank_not_there, rank_there, slice_there}
 use Rattle.bitpack_sets.proofs.CountLaws.{bytes_are}
 use Rattle.bitpack_sets.proofs.CutLaws.{slice_cut}
-use Rattle.bitpack_sets.proofs.ReadLaws.{place_fits, rank_le, rank_less}
+use Rattle.bitpack_sets.proofs.ReadLaws.{offset_fits, rank_le, rank_less}
 use Rattle.bitpack_sets.proofs.TestLaws.{bytes_taken}
 use Rattle.bitpack_sets.proofs.chunk.search.rank_in_parts.Goals as goal
 use Rattle.bitpack_sets.specs.Reads.{rank}
 use Rattle.bitpack_sets.specs.Slices.{AreSlices, numbers_in, slice_len, slice_numbers, slices_len}
 
--- the place of the high byte is among the counts
+-- the position of the high byte is among the counts
 at_most : (i x : ℕ) (hs counts : List ℕ) → i ≡ rank x hs → length hs ≡ length counts → i ≤ length counts
 at_most i x hs counts e size = let most = rank_le x hs in omega arith
 
@@ -18,10 +18,10 @@ below_counts : (i x : ℕ) (hs counts : List ℕ) → i ≡ rank x hs → rank x
 below_counts i x hs counts e less size = omega arith
 
 -- as many numbers as the count says
-own_few : (i place size : ℕ) (counts bytes : List ℕ) → AreSlices counts bytes → place ≡ slices_len (take i counts) → size ≡ slice_len (get_or counts i 0 + 1) → i < length counts
-    → length (slice_numbers (get_or counts i 0 + 1) (take (place + size - place) (drop place bytes))) ≡ get_or counts i 0 + 1
-own_few i place size counts bytes are e f lt =
-    ap (λ (l : List ℕ). length (slice_numbers (get_or counts i 0 + 1) l)) (slice_cut (get_or counts i 0 + 1) place size (slices_len (take i counts)) bytes e f) ∙ (slice_there i counts bytes are lt).count_is
+own_few : (i offset size : ℕ) (counts bytes : List ℕ) → AreSlices counts bytes → offset ≡ slices_len (take i counts) → size ≡ slice_len (get_or counts i 0 + 1) → i < length counts
+    → length (slice_numbers (get_or counts i 0 + 1) (take (offset + size - offset) (drop offset bytes))) ≡ get_or counts i 0 + 1
+own_few i offset size counts bytes are e f lt =
+    ap (λ (l : List ℕ). length (slice_numbers (get_or counts i 0 + 1) l)) (slice_cut (get_or counts i 0 + 1) offset size (slices_len (take i counts)) bytes e f) ∙ (slice_there i counts bytes are lt).count_is
 
 pub slice_bounds-count_numbers-end : goal.slice_bounds-count_numbers-end
 slice_bounds-count_numbers-end c =
@@ -35,8 +35,8 @@ returns-then-not-in_slice c =
     ∙ sym (rank_not_there c.args.number c.rank_in_slice-index.result hs c.args.counts.now c.args.slices.now c.requires.highs.count_is c.requires.highs.rising c.requires.slices c.rank_in_slice-index.ensures
     (sym c.in_slice.ensures ∙ c.if-not-in_slice.true))
 
-pub place_of_slice-place-requires-clause-within : goal.place_of_slice-place-requires-clause-within
-place_of_slice-place-requires-clause-within c =
+pub offset_of_slice-offset-requires-clause-within : goal.offset_of_slice-offset-requires-clause-within
+offset_of_slice-offset-requires-clause-within c =
     let few = rank_less (c.args.number / 256) (slice_numbers (length c.args.counts.now) c.args.highs.now) (sym c.in_slice.ensures ∙ c.if-not-in_slice.false) in
     let size = c.requires.highs.count_is in
     omega (arith, c.rank_in_slice-index.ensures)
@@ -47,19 +47,19 @@ bounds-counts-index c =
     let size = c.requires.highs.count_is in
     omega (arith, c.rank_in_slice-index.ensures)
 
-pub overflow_add-place : goal.overflow_add-place
-overflow_add-place c =
+pub overflow_add-offset : goal.overflow_add-offset
+overflow_add-offset c =
     let few = rank_less (c.args.number / 256) (slice_numbers (length c.args.counts.now) c.args.highs.now) (sym c.in_slice.ensures ∙ c.if-not-in_slice.false) in
     let size = c.requires.highs.count_is in
-    let fits = place_fits c.rank_in_slice-index.result c.args.counts.now c.args.slices.now c.requires.slices (omega (arith, c.rank_in_slice-index.ensures)) in
-    omega (arith, c.place_of_slice-place.ensures, c.byte_len-size.ensures)
+    let fits = offset_fits c.rank_in_slice-index.result c.args.counts.now c.args.slices.now c.requires.slices (omega (arith, c.rank_in_slice-index.ensures)) in
+    omega (arith, c.offset_of_slice-offset.ensures, c.byte_len-size.ensures)
 
 pub slice_bounds-rank_in_slice-end : goal.slice_bounds-rank_in_slice-end
 slice_bounds-rank_in_slice-end c =
     let few = rank_less (c.args.number / 256) (slice_numbers (length c.args.counts.now) c.args.highs.now) (sym c.in_slice.ensures ∙ c.if-not-in_slice.false) in
     let size = c.requires.highs.count_is in
-    let fits = place_fits c.rank_in_slice-index.result c.args.counts.now c.args.slices.now c.requires.slices (omega (arith, c.rank_in_slice-index.ensures)) in
-    omega (arith, c.place_of_slice-place.ensures, c.byte_len-size.ensures)
+    let fits = offset_fits c.rank_in_slice-index.result c.args.counts.now c.args.slices.now c.requires.slices (omega (arith, c.rank_in_slice-index.ensures)) in
+    omega (arith, c.offset_of_slice-offset.ensures, c.byte_len-size.ensures)
 
 pub overflow_add-result : goal.overflow_add-result
 overflow_add-result c =
@@ -69,8 +69,8 @@ overflow_add-result c =
     let most = at_most index (c.args.number / 256) (slice_numbers (length counts) c.args.highs.now) counts c.rank_in_slice-index.ensures c.requires.highs.count_is in
     let few = numbers_few (take index counts) are in
     let long = length-take-le index counts most in
-    let less = rank_le (c.args.number % 256) (slice_numbers (get_or counts index 0 + 1) (take (c.place_of_slice-place.result + c.byte_len-size.result - c.place_of_slice-place.result) (drop c.place_of_slice-place.result c.args.slices.now))) in
-    let own = own_few index c.place_of_slice-place.result c.byte_len-size.result counts c.args.slices.now c.requires.slices c.place_of_slice-place.ensures c.byte_len-size.ensures
+    let less = rank_le (c.args.number % 256) (slice_numbers (get_or counts index 0 + 1) (take (c.offset_of_slice-offset.result + c.byte_len-size.result - c.offset_of_slice-offset.result) (drop c.offset_of_slice-offset.result c.args.slices.now))) in
+    let own = own_few index c.offset_of_slice-offset.result c.byte_len-size.result counts c.args.slices.now c.requires.slices c.offset_of_slice-offset.ensures c.byte_len-size.ensures
     (let small = rank_less (c.args.number / 256) (slice_numbers (length counts) c.args.highs.now) (sym c.in_slice.ensures ∙ c.if-not-in_slice.false) in let size = c.requires.highs.count_is in omega (arith, c.rank_in_slice-index.ensures)) in
     let byte = (c.type_inv.counts index).fits in
     omega (arith, c.count_numbers-before.ensures, c.rank_in_slice.ensures)
@@ -81,7 +81,7 @@ returns c =
     let index : ℕ = c.rank_in_slice-index.result in
     let counts : List ℕ = c.args.counts.now in
     let lt = (let small = rank_less (c.args.number / 256) hs (sym c.in_slice.ensures ∙ c.if-not-in_slice.false) in let size = c.requires.highs.count_is in below_counts index (c.args.number / 256) hs counts c.rank_in_slice-index.ensures small size) in
-    let same = slice_cut (get_or counts index 0 + 1) c.place_of_slice-place.result c.byte_len-size.result (slices_len (take index counts)) c.args.slices.now c.place_of_slice-place.ensures c.byte_len-size.ensures in
+    let same = slice_cut (get_or counts index 0 + 1) c.offset_of_slice-offset.result c.byte_len-size.result (slices_len (take index counts)) c.args.slices.now c.offset_of_slice-offset.ensures c.byte_len-size.ensures in
     ap (λ (n : ℕ). n + c.rank_in_slice.result) c.count_numbers-before.ensures
     ∙ ap (λ (n : ℕ). numbers_in (take index counts) + n) (c.rank_in_slice.ensures ∙ ap (λ (l : List ℕ). rank (c.args.number % 256) (slice_numbers (get_or counts index 0 + 1) l)) same)
     ∙ sym (rank_there c.args.number index hs counts c.args.slices.now c.requires.highs.count_is c.requires.highs.rising c.requires.slices lt c.rank_in_slice-index.ensures (sym c.in_slice.ensures ∙ c.if-not-in_slice.false))

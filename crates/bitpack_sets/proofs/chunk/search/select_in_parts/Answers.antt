@@ -2,26 +2,26 @@
 use Rattle.std.proofs.Common.{◌+◌, ◌*◌, ◌∙◌, ℕ, List, ap, arith, get_or, length, subst, sym, take}
 use Rattle.bitpack_sets.proofs.BlockReads.{slice_there}
 use Rattle.bitpack_sets.proofs.CutLaws.{slice_cut}
-use Rattle.bitpack_sets.proofs.ReadLaws.{place_fits}
+use Rattle.bitpack_sets.proofs.ReadLaws.{offset_fits}
 use Rattle.bitpack_sets.proofs.SelectLaws.{slice_select}
 use Rattle.bitpack_sets.proofs.chunk.search.select_in_parts.Goals as goal
 use Rattle.bitpack_sets.specs.Slices.{IsSlice, slice_numbers, slices_len}
 
-pub overflow_add-place : goal.overflow_add-place
-overflow_add-place c =
-    let fits = place_fits c.slice_of-index.result.0 c.args.counts.now c.args.slices.now c.requires.slices c.slice_of-index.ensures.slice in
-    omega (arith, c.place_of_slice-place.ensures, c.byte_len-size.ensures)
+pub overflow_add-offset : goal.overflow_add-offset
+overflow_add-offset c =
+    let fits = offset_fits c.slice_of-index.result.0 c.args.counts.now c.args.slices.now c.requires.slices c.slice_of-index.ensures.slice in
+    omega (arith, c.offset_of_slice-offset.ensures, c.byte_len-size.ensures)
 
 pub slice_bounds-select_in_slice-end : goal.slice_bounds-select_in_slice-end
 slice_bounds-select_in_slice-end c =
-    let fits = place_fits c.slice_of-index.result.0 c.args.counts.now c.args.slices.now c.requires.slices c.slice_of-index.ensures.slice in
-    omega (arith, c.place_of_slice-place.ensures, c.byte_len-size.ensures)
+    let fits = offset_fits c.slice_of-index.result.0 c.args.counts.now c.args.slices.now c.requires.slices c.slice_of-index.ensures.slice in
+    omega (arith, c.offset_of_slice-offset.ensures, c.byte_len-size.ensures)
 
 pub select_in_slice-requires-clause-slice : goal.select_in_slice-requires-clause-slice
 select_in_slice-requires-clause-slice c =
     let index : ℕ = c.slice_of-index.result.0 in
     let counts : List ℕ = c.args.counts.now in
-    let cut = slice_cut (get_or counts index 0 + 1) c.place_of_slice-place.result c.byte_len-size.result (slices_len (take index counts)) c.args.slices.now c.place_of_slice-place.ensures c.byte_len-size.ensures in
+    let cut = slice_cut (get_or counts index 0 + 1) c.offset_of_slice-offset.result c.byte_len-size.result (slices_len (take index counts)) c.args.slices.now c.offset_of_slice-offset.ensures c.byte_len-size.ensures in
     subst (IsSlice (get_or counts index 0 + 1)) (sym cut) (slice_there index counts c.args.slices.now c.requires.slices c.slice_of-index.ensures.slice)
 
 pub returns : goal.returns
@@ -30,7 +30,7 @@ returns c =
     let left : ℕ = c.slice_of-index.result.1 in
     let counts : List ℕ = c.args.counts.now in
     let hs : List ℕ = slice_numbers (length counts) c.args.highs.now in
-    let cut = slice_cut (get_or counts index 0 + 1) c.place_of_slice-place.result c.byte_len-size.result (slices_len (take index counts)) c.args.slices.now c.place_of_slice-place.ensures c.byte_len-size.ensures in
+    let cut = slice_cut (get_or counts index 0 + 1) c.offset_of_slice-offset.result c.byte_len-size.result (slices_len (take index counts)) c.args.slices.now c.offset_of_slice-offset.ensures c.byte_len-size.ensures in
     ap (λ (n : ℕ). 256 * n + c.select_in_slice.result) c.select_in_slice-high.ensures
     ∙ ap (λ (n : ℕ). 256 * get_or hs index 0 + n) (c.select_in_slice.ensures ∙ ap (λ (l : List ℕ). get_or (slice_numbers (get_or counts index 0 + 1) l) left 0) cut)
     ∙ sym (slice_select index left c.args.position hs counts c.args.slices.now c.requires.highs.count_is c.requires.slices c.slice_of-index.ensures.slice c.slice_of-index.ensures.own c.slice_of-index.ensures.position)

@@ -1,8 +1,8 @@
--- The ids between two places are those of a chunk, or some of an array.
+-- The ids between two positions are those of a chunk, or some of an array.
 use Rattle.std.proofs.Common.{◌≡◌, ◌∙◌, ◌/◌, ◌%◌, ℕ, zero, suc, [], ◌∷◌, ap, arith, eqb, false, get_or, refl, sym}
 use Rattle.std.specs.Int.{bit_at}
 use Rattle.std.proofs.lemmas.Nat.Bits.{bit_at-zero}
-use Rattle.bitpack_sets.proofs.PlaceLaws.{between_none, blocks_body, lows_array, places_chunks}
+use Rattle.bitpack_sets.proofs.PositionLaws.{between_none, blocks_body, lows_array, positions_chunks}
 use Rattle.bitpack_sets.proofs.chunks.Chunks.highs.Goals as goal
 use Rattle.bitpack_sets.specs.Bitmaps.{has_bit, has_high}
 use Rattle.bitpack_sets.specs.Chunks.{lows_between}
@@ -18,16 +18,16 @@ no_bit : (h : ℕ) → has_bit (0 ∷ 0 ∷ 0 ∷ 0 ∷ []) h ≡ false
 unfolding has_bit
 no_bit h = ap (λ (n : ℕ). eqb (bit_at n (h % 64)) 1) (no_word (h / 64)) ∙ ap (λ (n : ℕ). eqb n 1) (bit_at-zero (h % 64))
 
-pub returns-then-place-end : goal.returns-then-place-end
-returns-then-place-end c h small =
+pub returns-then-position-end : goal.returns-then-position-end
+returns-then-position-end c h small =
     let set = c.args.self.now in
-    no_bit h ∙ sym (ap (has_high h) (ap (lows_between set c.args.place) (sym c.if-place-end.true) ∙ between_none set c.args.place))
+    no_bit h ∙ sym (ap (has_high h) (ap (lows_between set c.args.position) (sym c.if-position-end.true) ∙ between_none set c.args.position))
 
 pub returns-then-self-eq0 : goal.returns-then-self-eq0
 returns-then-self-eq0 c h small =
-    c.integer_highs.ensures h small ∙ ap (has_high h) (lows_array c.args.self.now c.args.place c.args.end c.if-self-eq0.true c.requires.within.0 c.requires.within.1)
+    c.integer_highs.ensures h small ∙ ap (has_high h) (lows_array c.args.self.now c.args.position c.args.end c.if-self-eq0.true c.requires.within.0 c.requires.within.1)
 
 pub block_highs-requires : goal.block_highs-requires
 block_highs-requires c =
-    (blocks_body c.args.self.now c.args.place c.body_of-body.result.now c.if-self-eq0.false
-    (let all = places_chunks c.args.self.now c.if-self-eq0.false in let at = c.if-place-end.false in omega arith) c.body_of-body.ensures (sym c.is_numbers.ensures ∙ c.if-is_numbers.false)).0
+    (blocks_body c.args.self.now c.args.position c.body_of-body.result.now c.if-self-eq0.false
+    (let all = positions_chunks c.args.self.now c.if-self-eq0.false in let at = c.if-position-end.false in omega arith) c.body_of-body.ensures (sym c.is_numbers.ensures ∙ c.if-is_numbers.false)).0

@@ -1,6 +1,6 @@
 -- The body of a chunk is numbers or blocks.
 use Rattle.std.proofs.Common.{◌∙◌, sym}
-use Rattle.bitpack_sets.proofs.PlaceLaws.{blocks_body}
+use Rattle.bitpack_sets.proofs.PositionLaws.{blocks_body}
 use Rattle.bitpack_sets.proofs.chunks.Chunks.load_body.Goals as goal
 
 pub load_blocks-requires-clause-blocks : goal.load_blocks-requires-clause-blocks

@@ -1,10 +1,10 @@
--- The place is among those that are left.
+-- The position is among those that are left.
 use Rattle.bitpack_sets.proofs.WalkLaws.{IsSought}
 use Rattle.bitpack_sets.proofs.chunks.Chunks.seek.Given as goal
-use Rattle.bitpack_sets.specs.Chunks.{ids_from, places}
+use Rattle.bitpack_sets.specs.Chunks.{ids_from, positions}
 
 abbrev pub invariant-loop-left : goal.invariant-loop-left
-invariant-loop-left l = IsSought (places l.self) (ids_from l.self) l.place l.key l.low l.left
+invariant-loop-left l = IsSought (positions l.self) (ids_from l.self) l.position l.key l.low l.left
 
 abbrev pub decreases-loop-left : goal.decreases-loop-left
 decreases-loop-left l = l.left

@@ -33,7 +33,7 @@ returns c =
     let two = c.split_at_mut-first.ensures.back_len in
     let number_len = c.number_len-size.ensures.len in
     let first_len = c.split_at_mut-first.ensures.front_len in
-    let kept = c.write_number.auto.bytes in
+    let unchanged = c.write_number.auto.bytes in
     let written = c.write_number.ensures.len in
     array_joined c.args.ids.now c.split_at_mut-head.result.0.now c.write_number.new.bytes c.write_integers.new.out c.split_at_mut-head.ensures.front_len
     (all_of c.write_number.result c.write_number.new.bytes (number (length c.args.ids.now)) c.write_number.ensures.number (omega arith)) c.write_integers.ensures

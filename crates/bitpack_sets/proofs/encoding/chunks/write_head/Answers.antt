@@ -15,8 +15,8 @@ returns c =
     let two = c.split_at_mut-second.ensures.front_len in
     let three = c.split_at_mut-first.ensures.back_len in
     let four = c.split_at_mut-second.ensures.back_len in
-    let kept = c.write_number.auto.bytes in
-    let kept' = c.write_number-2.auto.bytes in
+    let unchanged = c.write_number.auto.bytes in
+    let unchanged' = c.write_number-2.auto.bytes in
     let written = c.write_number.ensures.len in
     let written' = c.write_number-2.ensures.len in
     head_joined c.args.count c.args.chunks (c.args.end_size + 16 * c.args.sum_size) c.split_at_mut-form.result.0.now c.write_number.new.bytes c.write_number-2.new.bytes

@@ -1,7 +1,7 @@
 -- The parts of the encoding have their places.
 use Rattle.std.proofs.Common.{◌≡◌, ◌+◌, ◌∷◌, ◌++◌, List, ℕ, ap, arith, length, subst, sym, ◌∙◌, get_or}
 use Rattle.bitpack_sets.proofs.BodyFilled.{one_set}
-use Rattle.bitpack_sets.proofs.FewLaws.{all_of, codes_of, codes_one, codes_run, few_size, few_text, groups_text}
+use Rattle.bitpack_sets.proofs.FewLaws.{all_of, codes_of, codes_one, codes_run, few_encoding, few_size, groups_encoding}
 use Rattle.bitpack_sets.proofs.encoding.few.write_some.Goals as goal
 use Rattle.bitpack_sets.specs.Varints.{AreGroups, groups_of, number}
 
@@ -35,8 +35,8 @@ returns c =
     let ids : List ℕ = c.args.ids.now in
     let x : ℕ = get_or ids 0 0 in
     let codes : c.copy_gaps.new.out ≡ codes_of ids = c.copy_gaps.ensures in
-    let run : AreGroups (groups_of (length c.copy_gaps.new.out)) c.copy_gaps.new.out (groups_text ids) =
-    subst (λ (l : List ℕ). AreGroups (groups_of (length l)) l (groups_text ids)) (sym codes) (codes_run ids c.requires.set c.requires.some) in
+    let run : AreGroups (groups_of (length c.copy_gaps.new.out)) c.copy_gaps.new.out (groups_encoding ids) =
+    subst (λ (l : List ℕ). AreGroups (groups_of (length l)) l (groups_encoding ids)) (sym codes) (codes_run ids c.requires.set c.requires.some) in
     let size = few_size ids c.requires.some in
     let long = c.requires.size in
     let one = c.split_at_mut-head.ensures.back_len in
@@ -44,11 +44,11 @@ returns c =
     let first_len = c.split_at_mut-first.ensures.front_len in
     let number_len = c.number_len-size.ensures.len in
     let written = c.write_number.ensures.len in
-    let kept = c.write_number.auto.bytes in
-    let kept' = c.write_groups.auto.bytes in
+    let unchanged = c.write_number.auto.bytes in
+    let unchanged' = c.write_groups.auto.bytes in
     let first : c.write_number.new.bytes ≡ number x = all_of c.write_number.result c.write_number.new.bytes (number x) c.write_number.ensures.number (omega arith) in
-    let rest : c.write_groups.new.bytes ≡ groups_text ids =
-    all_of (length (groups_text ids)) c.write_groups.new.bytes (groups_text ids) (c.write_groups.ensures.groups (groups_text ids) run) (omega arith) in
+    let rest : c.write_groups.new.bytes ≡ groups_encoding ids =
+    all_of (length (groups_encoding ids)) c.write_groups.new.bytes (groups_encoding ids) (c.write_groups.ensures.groups (groups_encoding ids) run) (omega arith) in
     ap (λ (l : List ℕ). l ++ (c.write_number.new.bytes ++ c.write_groups.new.bytes)) (one_set c.split_at_mut-head.result.0.now (128 + length ids) c.split_at_mut-head.ensures.front_len)
     ∙ ap (λ (l : List ℕ). (128 + length ids) ∷ (l ++ c.write_groups.new.bytes)) first
-    ∙ ap (λ (l : List ℕ). (128 + length ids) ∷ (number x ++ l)) rest ∙ sym (few_text ids c.requires.some)
+    ∙ ap (λ (l : List ℕ). (128 + length ids) ∷ (number x ++ l)) rest ∙ sym (few_encoding ids c.requires.some)

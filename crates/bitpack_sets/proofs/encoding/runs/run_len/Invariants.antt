@@ -1,4 +1,4 @@
--- The run ends between two places.
+-- The run ends between two positions.
 use Rattle.std.proofs.Common.{◌-◌, ◌^◌}
 use Rattle.bitpack_sets.proofs.CountedRuns.{RunEnds}
 use Rattle.bitpack_sets.proofs.encoding.runs.run_len.Given as goal

@@ -2,7 +2,7 @@
 use Rattle.std.proofs.Common.{◌≡◌, ◌<◌, ℕ, List, ap, arith, get_or, length, subst, sym, ◌∙◌}
 use Rattle.bitpack_sets.specs.Opened.{ids}
 use Rattle.bitpack_sets.proofs.FormLaws.{some_bytes, stated_array, stated_chunks, stated_few}
-use Rattle.bitpack_sets.proofs.TextLaws.{count_stated}
+use Rattle.bitpack_sets.proofs.EncodingLaws.{count_stated}
 use Rattle.bitpack_sets.proofs.id_set.IdSet.at.Goals as goal
 
 pub bounds-self-0 : goal.bounds-self-0

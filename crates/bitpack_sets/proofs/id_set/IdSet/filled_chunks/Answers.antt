@@ -2,7 +2,7 @@
 use Rattle.std.proofs.Common.{◌^◌, arith, subst, sym, ◌∙◌}
 use Rattle.bitpack_sets.specs.Sets.{IsRising}
 use Rattle.bitpack_sets.proofs.FormLaws.{some_bytes, stated_array, stated_chunks, stated_few}
-use Rattle.bitpack_sets.proofs.TextLaws.{ids_are_read}
+use Rattle.bitpack_sets.proofs.EncodingLaws.{ids_are_read}
 use Rattle.bitpack_sets.proofs.id_set.IdSet.filled_chunks.Goals as goal
 
 pub bounds-self-0 : goal.bounds-self-0

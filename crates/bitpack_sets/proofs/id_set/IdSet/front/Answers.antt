@@ -3,7 +3,7 @@ use Rattle.std.proofs.Common.{◌≡◌, ◌-◌, ◌≤◌, ℕ, List, ap, arit
 use Rattle.bitpack_sets.proofs.CountLaws.{bytes_are}
 use Rattle.bitpack_sets.proofs.FormLaws.{some_bytes, stated_chunks}
 use Rattle.bitpack_sets.proofs.FrontLaws.{is_front, many_ids}
-use Rattle.bitpack_sets.proofs.TextLaws.{count_stated, ids_are_read}
+use Rattle.bitpack_sets.proofs.EncodingLaws.{count_stated, ids_are_read}
 use Rattle.bitpack_sets.proofs.id_set.IdSet.front.Goals as goal
 use Rattle.bitpack_sets.specs.Directory.{chunk_ids}
 use Rattle.bitpack_sets.specs.Fronts.{IsFront, front_ids}

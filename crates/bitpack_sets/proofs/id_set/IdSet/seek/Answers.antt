@@ -7,7 +7,7 @@ use Rattle.bitpack_sets.specs.Reads.{rank}
 use Rattle.bitpack_sets.specs.Sets.{IsRising}
 use Rattle.bitpack_sets.proofs.HalfLaws.{rank_above}
 use Rattle.bitpack_sets.proofs.ReadLaws.{rank_le}
-use Rattle.bitpack_sets.proofs.TextLaws.{ids_are_read}
+use Rattle.bitpack_sets.proofs.EncodingLaws.{ids_are_read}
 use Rattle.bitpack_sets.proofs.id_set.IdSet.seek.Goals as goal
 
 pub returns-then-position-len-clause-found : goal.returns-then-position-len-clause-found

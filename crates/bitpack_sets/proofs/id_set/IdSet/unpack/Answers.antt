@@ -4,7 +4,7 @@ use Rattle.bitpack_sets.specs.Faults.{short_fault}
 use Rattle.bitpack_sets.specs.Opened.{ids}
 use Rattle.bitpack_sets.specs.Reads.{few_ids}
 use Rattle.bitpack_sets.proofs.FormLaws.{some_bytes, stated_array, stated_chunks, stated_few}
-use Rattle.bitpack_sets.proofs.TextLaws.{count_stated}
+use Rattle.bitpack_sets.proofs.EncodingLaws.{count_stated}
 use Rattle.bitpack_sets.proofs.id_set.IdSet.unpack.Goals as goal
 
 pub bounds-self-0 : goal.bounds-self-0

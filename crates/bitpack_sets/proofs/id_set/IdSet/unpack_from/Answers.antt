@@ -4,7 +4,7 @@ use Rattle.bitpack_sets.specs.declared.id_set.IdSet.{IdSet}
 use Rattle.bitpack_sets.specs.Opened.{ids}
 use Rattle.bitpack_sets.proofs.FormLaws.{some_bytes, stated_array, stated_chunks, stated_few}
 use Rattle.bitpack_sets.proofs.RangeLaws.{quads_range}
-use Rattle.bitpack_sets.proofs.TextLaws.{count_stated, ids_are_read}
+use Rattle.bitpack_sets.proofs.EncodingLaws.{count_stated, ids_are_read}
 use Rattle.bitpack_sets.proofs.id_set.IdSet.unpack_from.Goals as goal
 
 pub bounds-self-0 : goal.bounds-self-0

@@ -3,11 +3,11 @@ use Rattle.std.proofs.Common.{◌≡◌, drop, length}
 use Rattle.std.specs.List.{filter}
 use Rattle.bitpack_sets.proofs.FollowLaws.{IsLeft}
 use Rattle.bitpack_sets.proofs.listed.filtering.filter.Given as goal
-use Rattle.bitpack_sets.specs.Lists.{keeps, listed_ids}
+use Rattle.bitpack_sets.specs.Lists.{listed_ids, retains}
 use Rattle.bitpack_sets.specs.Selections.{parts_numbers}
 
 abbrev pub invariant-loop-position : goal.invariant-loop-position
 invariant-loop-position l = record {
   size : length l.out ≡ length l.fn.out;
-  left : IsLeft (filter (keeps l.there (parts_numbers l.blocks)) (listed_ids l.list)) l.fn.out l.out l.at l.next (filter (keeps l.there (parts_numbers l.blocks)) (drop l.position (listed_ids l.list)));
+  left : IsLeft (filter (retains l.there (parts_numbers l.blocks)) (listed_ids l.list)) l.fn.out l.out l.at l.next (filter (retains l.there (parts_numbers l.blocks)) (drop l.position (listed_ids l.list)));
 }

@@ -4,12 +4,12 @@ use Rattle.std.proofs.Common.{ℕ, ◌≡◌, ◌^◌, ◌+◌, ◌<◌, ◌∙�
 use Rattle.bitpack_sets.proofs.AnswerLaws.{answer_few}
 use Rattle.bitpack_sets.proofs.FollowLaws.{follow_as, left_as, left_first, left_last, left_more}
 use Rattle.bitpack_sets.proofs.MergeLaws.{answer_ended, answer_ended', answer_step, cond_few}
-use Rattle.bitpack_sets.proofs.PlacedLaws.{byte_small}
+use Rattle.bitpack_sets.proofs.RetainedLaws.{byte_small}
 use Rattle.bitpack_sets.proofs.SliceLaws.{rising_room}
 use Rattle.bitpack_sets.proofs.listed.merging.merge_each.Goals as goal
 use Rattle.bitpack_sets.proofs.listed.merging.merge_each.Goals.{then-loop-i-test+else-j-len, else-loop-i-test}
 use Rattle.bitpack_sets.specs.Lists.{listed_ids}
-use Rattle.bitpack_sets.specs.Operations.{answer, holds}
+use Rattle.bitpack_sets.specs.Operations.{answer, apply}
 
 pub loop-i-init : goal.loop-i-init
 loop-i-init c = record {
@@ -38,8 +38,8 @@ loop-i-preserved c =
     let here : i < length xs = omega (arith, c.loop-i-test.true, c.len.ensures) in
     let there : j < length ys = omega (arith, c.if-j-len.true, c.len-in-loop-i.ensures) in
     let rest = answer operation (drop (i + bool_byte (leb x y)) xs) (drop (j + bool_byte (leb y x)) ys) in
-    let own : cond c.has-there.result (c.min.result ∷ []) [] ≡ cond (holds operation (leb x y) (leb y x)) (min x y ∷ []) [] =
-    ap (λ (b : Bool). cond b (c.min.result ∷ []) []) c.has-there.ensures ∙ ap (λ (n : ℕ). cond (holds operation (leb x y) (leb y x)) (n ∷ []) []) c.min.ensures in
+    let own : cond c.has-there.result (c.min.result ∷ []) [] ≡ cond (apply operation (leb x y) (leb y x)) (min x y ∷ []) [] =
+    ap (λ (b : Bool). cond b (c.min.result ∷ []) []) c.has-there.ensures ∙ ap (λ (n : ℕ). cond (apply operation (leb x y) (leb y x)) (n ∷ []) []) c.min.ensures in
     let size = c.loop-i.invariant.size in
     let one = byte_small (leb x y) in
     let other = byte_small (leb y x) in
@@ -47,8 +47,8 @@ loop-i-preserved c =
       first = omega arith;
       second = omega arith;
       size = omega arith;
-      left = left_more all c.args.out.now c.loop-i.out c.put-next.new.out c.args.at c.loop-i.next c.put-next.result (cond (holds operation (leb x y) (leb y x)) (min x y ∷ []) []) rest (omega arith)
-          (left_as all c.args.out.now c.loop-i.out c.args.at c.loop-i.next (answer operation (drop i xs) (drop j ys)) (cond (holds operation (leb x y) (leb y x)) (min x y ∷ []) [] ++ rest)
+      left = left_more all c.args.out.now c.loop-i.out c.put-next.new.out c.args.at c.loop-i.next c.put-next.result (cond (apply operation (leb x y) (leb y x)) (min x y ∷ []) []) rest (omega arith)
+          (left_as all c.args.out.now c.loop-i.out c.args.at c.loop-i.next (answer operation (drop i xs) (drop j ys)) (cond (apply operation (leb x y) (leb y x)) (min x y ∷ []) [] ++ rest)
           (answer_step operation i j xs ys c.args.a.now.rising c.args.b.now.rising here there x y c.at-x.ensures c.at-y.ensures) c.loop-i.invariant.left)
           (follow_as _ _ c.loop-i.out c.put-next.new.out c.loop-i.next c.put-next.result own c.put-next.ensures);
     }
@@ -65,7 +65,7 @@ copy_if-requires c =
     let count = c.loop-i.invariant.left.count in
     let many = rising_room 0 (2 ^ 32) (listed_ids c.args.a.now) c.args.a.now.rising in
     let rest = length-drop c.loop-i.i (listed_ids c.args.a.now) in
-    let some = cond_few c.keeps_left.result (drop c.loop-i.i (listed_ids c.args.a.now)) in
+    let some = cond_few c.retains_left.result (drop c.loop-i.i (listed_ids c.args.a.now)) in
     let end = c.copy_if-end.ensures.end_is in
     omega (arith, c.requires)
 
@@ -77,13 +77,13 @@ returns c =
     let all = answer operation xs ys in
     let i = c.loop-i.i in
     let j = c.loop-i.j in
-    let front = cond c.keeps_left.result (drop i xs) [] in
-    let back = cond c.keeps_right.result (drop j ys) [] in
+    let front = cond c.retains_left.result (drop i xs) [] in
+    let back = cond c.retains_right.result (drop j ys) [] in
     let ended : answer operation (drop i xs) (drop j ys) ≡ front ++ back = elim c.loop-i-test.branch [
       | then-loop-i-test+else-j-len w ↦
-          answer_ended' operation _ _ i j xs ys c.args.a.now.rising c.args.b.now.rising (omega (arith, w.if-j-len.false, w.len-in-loop-i.ensures)) c.keeps_left.ensures c.keeps_right.ensures
+          answer_ended' operation _ _ i j xs ys c.args.a.now.rising c.args.b.now.rising (omega (arith, w.if-j-len.false, w.len-in-loop-i.ensures)) c.retains_left.ensures c.retains_right.ensures
       | else-loop-i-test w ↦
-          answer_ended operation _ _ i j xs ys c.args.a.now.rising c.args.b.now.rising (omega (arith, w.loop-i-test.false, c.len.ensures)) c.keeps_left.ensures c.keeps_right.ensures
+          answer_ended operation _ _ i j xs ys c.args.a.now.rising c.args.b.now.rising (omega (arith, w.loop-i-test.false, c.len.ensures)) c.retains_left.ensures c.retains_right.ensures
     ] in
     let size = c.loop-i.invariant.size in
     left_last all c.args.out.now c.copy_if-end.new.out c.copy_if.new.out c.args.at c.copy_if-end.result c.copy_if.result back (omega arith)

@@ -1,11 +1,11 @@
 -- A high byte that is left out is in neither, or for `And` not in both.
 use Rattle.std.proofs.Common.{true, false, ◌∙◌, ap, sym}
 use Rattle.std.proofs.lemmas.Bool.{and_parts, true≢false}
-use Rattle.bitpack_sets.proofs.CombineLaws.{IsLeftOut, keeps_one, left_out_and, left_out_or}
+use Rattle.bitpack_sets.proofs.CombineLaws.{IsLeftOut, left_out_and, left_out_or, retains_one}
 use Rattle.bitpack_sets.proofs.operation.Operation.highs.Goals as goal
 use Rattle.bitpack_sets.proofs.operation.Operation.highs.Goals.{in-And, in_default}
 use Rattle.bitpack_sets.specs.Bitmaps.{has_bit}
-use Rattle.bitpack_sets.specs.Operations.{holds}
+use Rattle.bitpack_sets.specs.Operations.{apply}
 use Rattle.bitpack_sets.specs.declared.operation.Operation.{Operation}
 
 pub returns-clause-both : goal.returns-clause-both
@@ -39,17 +39,17 @@ pub returns-clause-in_left : goal.returns-clause-in_left
 returns-clause-in_left c = λ lacks h small is.
     let e = sym (c.words.ensures h small) ∙ is in
     elim c.match-self.branch [
-      | in-And w ↦ (and_parts _ _ (sym (ap (λ (o : Operation). holds o (has_bit c.args.a.now h) (has_bit c.args.b.now h)) w.operation-is) ∙ e)).0
-      | in_default w ↦ absurd (true≢false (sym (keeps_one c.args.self w.in_default.not-And w.in_default.not-AndNot).1 ∙ lacks))
+      | in-And w ↦ (and_parts _ _ (sym (ap (λ (o : Operation). apply o (has_bit c.args.a.now h) (has_bit c.args.b.now h)) w.operation-is) ∙ e)).0
+      | in_default w ↦ absurd (true≢false (sym (retains_one c.args.self w.in_default.not-And w.in_default.not-AndNot).1 ∙ lacks))
     ]
 
 pub returns-clause-in_right : goal.returns-clause-in_right
 returns-clause-in_right c = λ lacks h small is.
     let e = sym (c.words.ensures h small) ∙ is in
     elim c.match-self.branch [
-      | in-And w ↦ (and_parts _ _ (sym (ap (λ (o : Operation). holds o (has_bit c.args.a.now h) (has_bit c.args.b.now h)) w.operation-is) ∙ e)).1
-      | in_default w ↦ absurd (true≢false (sym (keeps_one c.args.self w.in_default.not-And w.in_default.not-AndNot).0 ∙ lacks))
+      | in-And w ↦ (and_parts _ _ (sym (ap (λ (o : Operation). apply o (has_bit c.args.a.now h) (has_bit c.args.b.now h)) w.operation-is) ∙ e)).1
+      | in_default w ↦ absurd (true≢false (sym (retains_one c.args.self w.in_default.not-And w.in_default.not-AndNot).0 ∙ lacks))
     ]
 
 pub returns-in-AndNot-clause-in_right : goal.returns-in-AndNot-clause-in_right
-returns-in-AndNot-clause-in_right c = λ lacks h small is. absurd (true≢false (sym (ap (λ (o : Operation). holds o true false) c.in-AndNot.is) ∙ lacks))
+returns-in-AndNot-clause-in_right c = λ lacks h small is. absurd (true≢false (sym (ap (λ (o : Operation). apply o true false) c.in-AndNot.is) ∙ lacks))

@@ -1,5 +1,5 @@
 use Rattle.std.proofs.Common.{map, [], length-set, refl, ◌∙◌, arith, rules}
-use Rattle.bitpack_sets.proofs.QueryLaws.{Covers, covers_joined, combine_at, held_after_combine, held_after_set, held_found, set_at}
+use Rattle.bitpack_sets.proofs.QueryLaws.{Covers, covers_joined, combine_at, stored_after_combine, stored_after_set, stored_found, set_at}
 use Rattle.bitpack_sets.proofs.query.running.all_highs.Goals as goal
 use Rattle.bitpack_sets.proofs.query.running.all_highs.Goals.{in-Set, in-Combine}
 
@@ -22,7 +22,7 @@ pub overflow_sub-all : goal.overflow_sub-all
 overflow_sub-all g c = omega (arith, (combine_at g.T.AsStep.its_step _ _ _ _ _ _ _ _ c.loop-i-test.true c.index-steps-i.is c.as_step.ensures c.in-Combine.is c.loop-i.invariant.sound).two)
 
 pub loop-i-init : goal.loop-i-init
-loop-i-init g c = record { room = refl; few = omega arith; sound = c.requires.sound; held = λ x h. tt }
+loop-i-init g c = record { room = refl; few = omega arith; sound = c.requires.sound; stored = λ x h. tt }
 
 pub loop-i-preserved : goal.loop-i-preserved
 loop-i-preserved g c = elim c.match-as_step.branch [
@@ -33,8 +33,8 @@ loop-i-preserved g c = elim c.match-as_step.branch [
         room = rw w.all-is (length-set c.loop-i.all _ _ ∙ before.room);
         few = omega (arith, before.few, fits.room, w.depth-is);
         sound = rw w.depth-is fits.later;
-        held = λ x h. rw (w.all-is, w.depth-is) (held_after_set g.T.AsStep.its_step g.S.AsSet.its_ids (Covers x) [] c.loop-i.all _ _ _ c.args.sets.now c.args.steps.now _ _ _ _ x _ c.loop-i-test.true c.index-steps-i.is c.as_step.ensures w.in-Set.is fits.within w.index-sets-set.is w.as_set.ensures
-            (omega (arith, before.room, before.few, fits.room)) (w.highs_of.ensures x h) (before.held x h));
+        stored = λ x h. rw (w.all-is, w.depth-is) (stored_after_set g.T.AsStep.its_step g.S.AsSet.its_ids (Covers x) [] c.loop-i.all _ _ _ c.args.sets.now c.args.steps.now _ _ _ _ x _ c.loop-i-test.true c.index-steps-i.is c.as_step.ensures w.in-Set.is fits.within w.index-sets-set.is w.as_set.ensures
+            (omega (arith, before.room, before.few, fits.room)) (w.highs_of.ensures x h) (before.stored x h));
       })
   | in-Combine w ↦ (
       let before = c.loop-i.invariant in
@@ -43,11 +43,11 @@ loop-i-preserved g c = elim c.match-as_step.branch [
         room = rw w.all-is (length-set c.loop-i.all _ _ ∙ before.room);
         few = omega (arith, before.few, w.depth-is);
         sound = rw w.depth-is wait.later;
-        held = λ x h. rw (w.all-is, w.depth-is) (held_after_combine g.T.AsStep.its_step (Covers x) [] c.loop-i.all _ _ _ _ (map g.S.AsSet.its_ids c.args.sets.now) c.args.steps.now _ _ _ x _ c.loop-i-test.true c.index-steps-i.is c.as_step.ensures w.in-Combine.is
+        stored = λ x h. rw (w.all-is, w.depth-is) (stored_after_combine g.T.AsStep.its_step (Covers x) [] c.loop-i.all _ _ _ _ (map g.S.AsSet.its_ids c.args.sets.now) c.args.steps.now _ _ _ x _ c.loop-i-test.true c.index-steps-i.is c.as_step.ensures w.in-Combine.is
             wait.two (omega (arith, wait.two)) (omega (arith, wait.two)) (omega (arith, wait.two, before.room, before.few))
-            (λ a b p q. covers_joined w.in-Combine.operation x _ _ _ a b w.highs.ensures.both w.highs.ensures.left w.highs.ensures.right p q) (before.held x h));
+            (λ a b p q. covers_joined w.in-Combine.operation x _ _ _ a b w.highs.ensures.both w.highs.ensures.left w.highs.ensures.right p q) (before.stored x h));
       })
 ]
 
 pub returns : goal.returns
-returns g c = λ x h. held_found g.T.AsStep.its_step (Covers x) [] _ _ _ _ _ _ _ x c.loop-i-test.false c.loop-i.invariant.sound (c.loop-i.invariant.held x h)
+returns g c = λ x h. stored_found g.T.AsStep.its_step (Covers x) [] _ _ _ _ _ _ _ x c.loop-i-test.false c.loop-i.invariant.sound (c.loop-i.invariant.stored x h)

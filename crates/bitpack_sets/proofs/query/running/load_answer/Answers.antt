@@ -1,5 +1,5 @@
 use Rattle.std.proofs.Common.{map, [], ◌-◌, ◌%◌, length-set, refl, ◌∙◌, arith, rules}
-use Rattle.bitpack_sets.proofs.QueryLaws.{Tells, combine_at, joined_set, tells_joined, held_after_combine, held_after_set, held_found, set_at}
+use Rattle.bitpack_sets.proofs.QueryLaws.{IsBit, combine_at, joined_set, bit_joined, stored_after_combine, stored_after_set, stored_found, set_at}
 use Rattle.bitpack_sets.proofs.query.running.load_answer.Goals as goal
 use Rattle.bitpack_sets.proofs.query.running.load_answer.Goals.{in-Set, in-Combine}
 
@@ -25,7 +25,7 @@ pub bounds-others-0 : goal.bounds-others-0
 bounds-others-0 g c = omega (arith, c.loop-i.invariant.levels, c.loop-i.invariant.few, c.split_at_mut-words.ensures.back_len, (combine_at g.T.AsStep.its_step _ _ _ _ _ _ _ _ c.loop-i-test.true c.index-steps-i.is c.as_step.ensures c.in-Combine.is c.loop-i.invariant.sound).two)
 
 pub loop-i-init : goal.loop-i-init
-loop-i-init g c = record { levels = refl; few = omega arith; sound = c.requires.sound; held = λ x h there. tt }
+loop-i-init g c = record { levels = refl; few = omega arith; sound = c.requires.sound; stored = λ x h there. tt }
 
 pub loop-i-preserved : goal.loop-i-preserved
 loop-i-preserved g c = elim c.match-as_step.branch [
@@ -36,8 +36,8 @@ loop-i-preserved g c = elim c.match-as_step.branch [
         levels = rw w.bitmaps-is (length-set c.loop-i.bitmaps _ _ ∙ before.levels);
         few = omega (arith, before.few, fits.room, w.depth-is);
         sound = rw w.depth-is fits.later;
-        held = λ x h there. rw (w.bitmaps-is, w.depth-is) (held_after_set g.T.AsStep.its_step g.S.AsSet.its_ids (Tells x) [] c.loop-i.bitmaps _ _ _ c.args.sets.now c.args.steps.now _ _ _ _ x _ c.loop-i-test.true c.index-steps-i.is c.as_step.ensures w.in-Set.is fits.within w.index-sets-set.is w.as_set.ensures
-            (omega (arith, before.levels, before.few, fits.room)) (w.load_key.ensures x h there) (before.held x h there));
+        stored = λ x h there. rw (w.bitmaps-is, w.depth-is) (stored_after_set g.T.AsStep.its_step g.S.AsSet.its_ids (IsBit x) [] c.loop-i.bitmaps _ _ _ c.args.sets.now c.args.steps.now _ _ _ _ x _ c.loop-i-test.true c.index-steps-i.is c.as_step.ensures w.in-Set.is fits.within w.index-sets-set.is w.as_set.ensures
+            (omega (arith, before.levels, before.few, fits.room)) (w.load_key.ensures x h there) (before.stored x h there));
       })
   | in-Combine w ↦ (
       let before = c.loop-i.invariant in
@@ -48,12 +48,12 @@ loop-i-preserved g c = elim c.match-as_step.branch [
         levels = rw (w.bitmaps-is, is) (length-set c.loop-i.bitmaps _ _ ∙ before.levels);
         few = omega (arith, before.few, w.depth-is);
         sound = rw w.depth-is wait.later;
-        held = λ x h there. rw (w.bitmaps-is, is, w.depth-is) (held_after_combine g.T.AsStep.its_step (Tells x) [] c.loop-i.bitmaps _ _ _ _ (map g.S.AsSet.its_ids c.args.sets.now) c.args.steps.now _ _ _ x _ c.loop-i-test.true c.index-steps-i.is c.as_step.ensures w.in-Combine.is
+        stored = λ x h there. rw (w.bitmaps-is, is, w.depth-is) (stored_after_combine g.T.AsStep.its_step (IsBit x) [] c.loop-i.bitmaps _ _ _ _ (map g.S.AsSet.its_ids c.args.sets.now) c.args.steps.now _ _ _ x _ c.loop-i-test.true c.index-steps-i.is c.as_step.ensures w.in-Combine.is
             wait.two (omega (arith, wait.two)) (omega (arith, wait.two)) (omega (arith, wait.two, before.levels, before.few))
-            (λ a b p q. tells_joined w.in-Combine.operation x c.loop-i.bitmaps w.split_at_mut-words.result.0.now w.split_at_mut-words.result.1.now (c.loop-i.depth - 1 - 1) (c.loop-i.depth - 1) w.combine.new.words a b
-            parts.front parts.back (omega (arith, wait.two)) (w.combine.ensures.own (x % 65536) (omega arith) there) p q) (before.held x h there));
+            (λ a b p q. bit_joined w.in-Combine.operation x c.loop-i.bitmaps w.split_at_mut-words.result.0.now w.split_at_mut-words.result.1.now (c.loop-i.depth - 1 - 1) (c.loop-i.depth - 1) w.combine.new.words a b
+            parts.front parts.back (omega (arith, wait.two)) (w.combine.ensures.own (x % 65536) (omega arith) there) p q) (before.stored x h there));
       })
 ]
 
 pub returns : goal.returns
-returns g c = λ x h there. held_found g.T.AsStep.its_step (Tells x) [] _ _ _ _ _ _ _ x c.loop-i-test.false c.loop-i.invariant.sound (c.loop-i.invariant.held x h there)
+returns g c = λ x h there. stored_found g.T.AsStep.its_step (IsBit x) [] _ _ _ _ _ _ _ x c.loop-i-test.false c.loop-i.invariant.sound (c.loop-i.invariant.stored x h there)

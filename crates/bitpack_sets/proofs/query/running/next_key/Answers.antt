@@ -1,5 +1,5 @@
 use Rattle.std.proofs.Common.{map, ◌*◌, length-set, refl, ◌∙◌, arith, rules}
-use Rattle.bitpack_sets.proofs.QueryLaws.{Before, before_joined, combine_at, held_after_combine, held_after_set, held_found, set_at}
+use Rattle.bitpack_sets.proofs.QueryLaws.{Before, before_joined, combine_at, set_at, stored_after_combine, stored_after_set, stored_found}
 use Rattle.bitpack_sets.proofs.query.running.next_key.Goals as goal
 use Rattle.bitpack_sets.proofs.query.running.next_key.Goals.{in-Set, in-Combine}
 
@@ -22,7 +22,7 @@ pub overflow_sub-keys : goal.overflow_sub-keys
 overflow_sub-keys g c = omega (arith, (combine_at g.T.AsStep.its_step _ _ _ _ _ _ _ _ c.loop-i-test.true c.index-steps-i.is c.as_step.ensures c.in-Combine.is c.loop-i.invariant.sound).two)
 
 pub loop-i-init : goal.loop-i-init
-loop-i-init g c = record { room = refl; few = omega arith; sound = c.requires.sound; held = λ x h. tt }
+loop-i-init g c = record { room = refl; few = omega arith; sound = c.requires.sound; stored = λ x h. tt }
 
 pub loop-i-preserved : goal.loop-i-preserved
 loop-i-preserved g c = elim c.match-as_step.branch [
@@ -34,8 +34,8 @@ loop-i-preserved g c = elim c.match-as_step.branch [
         room = rw w.keys-is (length-set c.loop-i.keys _ _ ∙ before.room);
         few = omega (arith, before.few, fits.room, w.depth-is);
         sound = rw w.depth-is fits.later;
-        held = λ x h. rw (w.keys-is, w.depth-is) (held_after_set g.T.AsStep.its_step g.S.AsSet.its_ids (Before c.args.from x) 0 c.loop-i.keys _ _ _ c.args.sets.now c.args.steps.now _ _ _ _ x _ c.loop-i-test.true c.index-steps-i.is c.as_step.ensures w.in-Set.is fits.within w.index-sets-set.is w.as_set.ensures
-            (omega (arith, before.room, before.few, fits.room)) (key.least, (key.most, key.none x h)) (before.held x h));
+        stored = λ x h. rw (w.keys-is, w.depth-is) (stored_after_set g.T.AsStep.its_step g.S.AsSet.its_ids (Before c.args.from x) 0 c.loop-i.keys _ _ _ c.args.sets.now c.args.steps.now _ _ _ _ x _ c.loop-i-test.true c.index-steps-i.is c.as_step.ensures w.in-Set.is fits.within w.index-sets-set.is w.as_set.ensures
+            (omega (arith, before.room, before.few, fits.room)) (key.least, (key.most, key.none x h)) (before.stored x h));
       })
   | in-Combine w ↦ (
       let before = c.loop-i.invariant in
@@ -44,17 +44,17 @@ loop-i-preserved g c = elim c.match-as_step.branch [
         room = rw w.keys-is (length-set c.loop-i.keys _ _ ∙ before.room);
         few = omega (arith, before.few, w.depth-is);
         sound = rw w.depth-is wait.later;
-        held = λ x h. rw (w.keys-is, w.depth-is) (held_after_combine g.T.AsStep.its_step (Before c.args.from x) 0 c.loop-i.keys _ _ _ _ (map g.S.AsSet.its_ids c.args.sets.now) c.args.steps.now _ _ _ x _ c.loop-i-test.true c.index-steps-i.is c.as_step.ensures w.in-Combine.is
+        stored = λ x h. rw (w.keys-is, w.depth-is) (stored_after_combine g.T.AsStep.its_step (Before c.args.from x) 0 c.loop-i.keys _ _ _ _ (map g.S.AsSet.its_ids c.args.sets.now) c.args.steps.now _ _ _ x _ c.loop-i-test.true c.index-steps-i.is c.as_step.ensures w.in-Combine.is
             wait.two (omega (arith, wait.two)) (omega (arith, wait.two)) (omega (arith, wait.two, before.room, before.few))
-            (λ a b p q. before_joined w.in-Combine.operation c.args.from x _ _ _ a b w.key.ensures.either w.key.ensures.none p q) (before.held x h));
+            (λ a b p q. before_joined w.in-Combine.operation c.args.from x _ _ _ a b w.key.ensures.either w.key.ensures.none p q) (before.stored x h));
       })
 ]
 
 pub returns-clause-least : goal.returns-clause-least
-returns-clause-least g c = (held_found g.T.AsStep.its_step (Before c.args.from (65536 * c.args.from)) 0 _ _ _ _ _ _ _ _ c.loop-i-test.false c.loop-i.invariant.sound (c.loop-i.invariant.held (65536 * c.args.from) (omega arith))).0
+returns-clause-least g c = (stored_found g.T.AsStep.its_step (Before c.args.from (65536 * c.args.from)) 0 _ _ _ _ _ _ _ _ c.loop-i-test.false c.loop-i.invariant.sound (c.loop-i.invariant.stored (65536 * c.args.from) (omega arith))).0
 
 pub returns-clause-most : goal.returns-clause-most
-returns-clause-most g c = (held_found g.T.AsStep.its_step (Before c.args.from (65536 * c.args.from)) 0 _ _ _ _ _ _ _ _ c.loop-i-test.false c.loop-i.invariant.sound (c.loop-i.invariant.held (65536 * c.args.from) (omega arith))).1.0
+returns-clause-most g c = (stored_found g.T.AsStep.its_step (Before c.args.from (65536 * c.args.from)) 0 _ _ _ _ _ _ _ _ c.loop-i-test.false c.loop-i.invariant.sound (c.loop-i.invariant.stored (65536 * c.args.from) (omega arith))).1.0
 
 pub returns-clause-none : goal.returns-clause-none
-returns-clause-none g c = λ x h. (held_found g.T.AsStep.its_step (Before c.args.from x) 0 _ _ _ _ _ _ _ _ c.loop-i-test.false c.loop-i.invariant.sound (c.loop-i.invariant.held x h)).1.1
+returns-clause-none g c = λ x h. (stored_found g.T.AsStep.its_step (Before c.args.from x) 0 _ _ _ _ _ _ _ _ c.loop-i-test.false c.loop-i.invariant.sound (c.loop-i.invariant.stored x h)).1.1

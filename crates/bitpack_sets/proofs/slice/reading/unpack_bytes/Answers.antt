@@ -11,10 +11,10 @@ pub loop-i-preserved : goal.loop-i-preserved
 loop-i-preserved c =
     let size = c.loop-i.invariant.size in
     record {
-      size = length-set c.loop-i.places _ _ ∙ size;
-      values = one_set (λ i. c.args.base + i) c.loop-i.places c.args.bytes.now c.loop-i.i c.loop-i-test.true (omega arith) c.loop-i.invariant.values;
+      size = length-set c.loop-i.positions _ _ ∙ size;
+      values = one_set (λ i. c.args.base + i) c.loop-i.positions c.args.bytes.now c.loop-i.i c.loop-i-test.true (omega arith) c.loop-i.invariant.values;
     }
 
 pub returns-clause-values : goal.returns-clause-values
 returns-clause-values c =
-    part_set (λ i. c.args.base + i) c.args.out.now c.loop-i.places c.args.bytes.now c.args.at c.loop-i.i (omega arith) c.loop-i.invariant.size c.loop-i-test.false c.loop-i.invariant.values
+    part_set (λ i. c.args.base + i) c.args.out.now c.loop-i.positions c.args.bytes.now c.args.at c.loop-i.i (omega arith) c.loop-i.invariant.size c.loop-i-test.false c.loop-i.invariant.values

@@ -4,6 +4,6 @@ use Rattle.bitpack_sets.proofs.slice.reading.unpack_bytes.Given as goal
 
 abbrev pub invariant-loop-i : goal.invariant-loop-i
 invariant-loop-i l = record {
-  size : length l.places ≡ length l.bytes;
-  values : take l.i l.places ≡ map (λ i. l.base + i) (take l.i l.bytes);
+  size : length l.positions ≡ length l.bytes;
+  values : take l.i l.positions ≡ map (λ i. l.base + i) (take l.i l.bytes);
 }

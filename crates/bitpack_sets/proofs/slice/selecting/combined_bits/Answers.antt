@@ -3,7 +3,7 @@ use Rattle.std.proofs.Common.{Bool, ◌∙◌, ap}
 use Rattle.bitpack_sets.proofs.AnswerLaws.{those_same}
 use Rattle.bitpack_sets.proofs.slice.selecting.combined_bits.Goals as goal
 use Rattle.bitpack_sets.specs.Bitmaps.{has_bit}
-use Rattle.bitpack_sets.specs.Operations.{holds}
+use Rattle.bitpack_sets.specs.Operations.{apply}
 use Rattle.bitpack_sets.specs.Reads.{has}
 use Rattle.bitpack_sets.specs.Selections.{numbers_at}
 
@@ -11,7 +11,7 @@ pub returns : goal.returns
 returns c =
     let a = c.args.a in
     let b = c.args.b in
-    those_same 256 (has_bit c.words.result) (λ x. holds c.args.operation (has x (numbers_at a)) (has x (numbers_at b))) (λ i small.
+    those_same 256 (has_bit c.words.result) (λ x. apply c.args.operation (has x (numbers_at a)) (has x (numbers_at b))) (λ i small.
     c.words.ensures i small
-    ∙ ap (λ (t : Bool). holds c.args.operation t (has_bit c.bits-2.result i)) (c.bits.ensures i small)
-    ∙ ap (holds c.args.operation (has i (numbers_at a))) (c.bits-2.ensures i small))
+    ∙ ap (λ (t : Bool). apply c.args.operation t (has_bit c.bits-2.result i)) (c.bits.ensures i small)
+    ∙ ap (apply c.args.operation (has i (numbers_at a))) (c.bits-2.ensures i small))

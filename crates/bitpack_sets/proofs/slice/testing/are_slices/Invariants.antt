@@ -5,7 +5,7 @@ use Rattle.bitpack_sets.specs.Slices.{AreSlices}
 
 abbrev pub invariant-loop-less : goal.invariant-loop-less
 invariant-loop-less l = record {
-  within : l.place ≤ length l.bytes;
-  some : AreSlices l.counts l.bytes → AreSlices (drop l.less-index l.counts) (drop l.place l.bytes);
-  all : AreSlices (drop l.less-index l.counts) (drop l.place l.bytes) → AreSlices l.counts l.bytes;
+  within : l.offset ≤ length l.bytes;
+  some : AreSlices l.counts l.bytes → AreSlices (drop l.less-index l.counts) (drop l.offset l.bytes);
+  all : AreSlices (drop l.less-index l.counts) (drop l.offset l.bytes) → AreSlices l.counts l.bytes;
 }

@@ -1,4 +1,4 @@
--- The bytes that are not above those before them are marked.
+-- The bytes that are not above those before them are matched.
 use Rattle.std.proofs.Common.{arith}
 use Rattle.bitpack_sets.proofs.IncreaseLaws.{rises_tested}
 use Rattle.bitpack_sets.proofs.slice.testing.is_increasing_from.Goals as goal

@@ -6,7 +6,7 @@ use Rattle.bitpack_sets.specs.Cursors.{first_slice, from_slice, left_of}
 use Rattle.bitpack_sets.specs.Opened.{ids}
 use Rattle.bitpack_sets.specs.Reads.{rank, slice_or_end}
 use Rattle.bitpack_sets.proofs.CursorLaws.{fewer_after, moved, none_after, seam, stands, with_first}
-use Rattle.bitpack_sets.proofs.TextLaws.{ids_are_read}
+use Rattle.bitpack_sets.proofs.EncodingLaws.{ids_are_read}
 use Rattle.bitpack_sets.proofs.slice_cursor.SliceCursor.advance.Goals as goal
 
 next_slice : (slice : ℕ) → 256 * slice + 256 ≡ 256 * (slice + 1)

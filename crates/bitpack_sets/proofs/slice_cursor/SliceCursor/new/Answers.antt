@@ -4,7 +4,7 @@ use Rattle.bitpack_sets.specs.declared.id_set.IdSet.{IdSet}
 use Rattle.bitpack_sets.specs.Opened.{ids}
 use Rattle.bitpack_sets.specs.Reads.{slice_or_end}
 use Rattle.bitpack_sets.proofs.CursorLaws.{seam, stands, start}
-use Rattle.bitpack_sets.proofs.TextLaws.{ids_are_read}
+use Rattle.bitpack_sets.proofs.EncodingLaws.{ids_are_read}
 use Rattle.bitpack_sets.proofs.slice_cursor.SliceCursor.new.Goals as goal
 
 pub take_slice-slice-requires : goal.take_slice-slice-requires

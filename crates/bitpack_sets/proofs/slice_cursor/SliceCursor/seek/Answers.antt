@@ -6,7 +6,7 @@ use Rattle.bitpack_sets.specs.Opened.{ids}
 use Rattle.bitpack_sets.specs.Reads.{rank, slice_or_end}
 use Rattle.bitpack_sets.proofs.CursorLaws.{moved, rank_up, seam, stands, stayed}
 use Rattle.bitpack_sets.proofs.ReadLaws.{rank_le}
-use Rattle.bitpack_sets.proofs.TextLaws.{ids_are_read}
+use Rattle.bitpack_sets.proofs.EncodingLaws.{ids_are_read}
 use Rattle.bitpack_sets.proofs.slice_cursor.SliceCursor.seek.Goals as goal
 
 pub returns-then-least-self-clause-left : goal.returns-then-least-self-clause-left

@@ -3,7 +3,7 @@ use Rattle.std.proofs.Common.{◌^◌}
 use Rattle.bitpack_sets.specs.Opened.{ids}
 use Rattle.bitpack_sets.specs.Cursors.{left_of}
 use Rattle.bitpack_sets.proofs.CursorLaws.{none_first, small_first}
-use Rattle.bitpack_sets.proofs.TextLaws.{ids_are_read}
+use Rattle.bitpack_sets.proofs.EncodingLaws.{ids_are_read}
 use Rattle.bitpack_sets.proofs.WalkLaws.{rising_from}
 use Rattle.bitpack_sets.proofs.slice_cursor.SliceCursor.slice.Goals as goal
 

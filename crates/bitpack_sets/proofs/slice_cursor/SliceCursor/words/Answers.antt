@@ -3,7 +3,7 @@ use Rattle.std.proofs.Common.{◌∙◌, ap}
 use Rattle.bitpack_sets.specs.Opened.{ids}
 use Rattle.bitpack_sets.specs.Reads.{slice_or_end}
 use Rattle.bitpack_sets.proofs.CursorLaws.{end_bits}
-use Rattle.bitpack_sets.proofs.TextLaws.{ids_are_read}
+use Rattle.bitpack_sets.proofs.EncodingLaws.{ids_are_read}
 use Rattle.bitpack_sets.proofs.slice_cursor.SliceCursor.words.Goals as goal
 
 pub returns-clause-end : goal.returns-clause-end

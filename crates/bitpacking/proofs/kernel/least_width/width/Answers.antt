@@ -61,8 +61,8 @@ loop-i-preserved g c =
           (λ (ge : lanes * i ≤ k).
           let lane : ℕ = k - lanes * i in
           let lt : k - lanes * i < lanes = omega arith in
-          let in_place : i * lanes + (k - lanes * i) ≡ k = omega arith in
-          let e : get_or all k 0 ≡ get_or codes (k - lanes * i) 0 = rw in_place at (code (k - lanes * i) lt) in
+          let at_bit : i * lanes + (k - lanes * i) ≡ k = omega arith in
+          let e : get_or all k 0 ≡ get_or codes (k - lanes * i) 0 = rw at_bit at (code (k - lanes * i) lt) in
           rw e (omega (arith, each (k - lanes * i) lt, le_or_r (get_or set (k - lanes * i) 0) (get_or codes (k - lanes * i) 0))))
           (cases_lt k (lanes * i));
       below = λ w fits lane lt.

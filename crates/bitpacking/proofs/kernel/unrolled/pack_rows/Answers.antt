@@ -2,7 +2,7 @@
 use Rattle.std.proofs.Common.{List, ◌≡◌, ℕ, ◌+◌, ◌-◌, ◌*◌, ◌/◌, ◌%◌, ◌^◌, ◌<◌, length, get_or, bit_or, sym, ◌∙◌, arith}
 use Rattle.bitpacking_register.specs.Words.{shifted_right}
 use Rattle.bitpacking.proofs.PackedLane.{row_room}
-use Rattle.bitpacking.proofs.PackedRows.{row_word, nothing_over, RowsPacked-keep, RowsPacked-store, PacksRows-keep, PacksRows-store}
+use Rattle.bitpacking.proofs.PackedRows.{row_word, nothing_over, RowsPacked-append, RowsPacked-store, PacksRows-append, PacksRows-store}
 use Rattle.bitpacking.proofs.RegisterLemmas.{lane-map, lane-splat, lane-or_shifted}
 use Rattle.bitpacking.proofs.RowSteps.{rest_step}
 use Rattle.bitpacking.proofs.kernel.unrolled.pack_rows.Goals as goal
@@ -36,11 +36,11 @@ loop-i-preserved g c =
         same_reference = c.loop-i.invariant.same_reference;
         same_room = c.loop-i.invariant.same_room;
         packed = λ codes from.
-            RowsPacked-keep lanes width i codes values (g.R.Register.words c.load.result) given old new c.loop-i.target.bytes.now pending word
+            RowsPacked-append lanes width i codes values (g.R.Register.words c.load.result) given old new c.loop-i.target.bytes.now pending word
             (c.loop-i.invariant.packed codes from) last c.load.ensures.words c.transform-codes.ensures (count c.transform-codes.result) joined_to
             (omega (arith, w.if-filled-width-lt32.true));
         rest = c.loop-i.invariant.rest;
-        counts = PacksRows-keep c.args.steps.now c.loop-i.steps c.load.new.steps width g.row.FROM i
+        counts = PacksRows-append c.args.steps.now c.loop-i.steps c.load.new.steps width g.row.FROM i
             (omega (arith, w.if-filled-width-lt32.true)) c.loop-i.invariant.counts (rw c.requires.bits at c.load.ensures.counts);
       })
       | else-filled-width-lt32 w ↦ rw (w.target-is, w.pending-is, w.steps-is) (record {

@@ -17,7 +17,7 @@ use denote.Ref.{mut_vals, mut_Tells}
 use denote.Signature.{plain, types_at}
 use denote.Steps.{nothing, opens, closes, heard}
 use denote.Triple.Walked.{Stays, walk_of, stay_ref, stay_dropped, Goes-ref, Goes-dropped, ends_at}
-use Rattle.bitpacking.proofs.Facts.{tells, tells_last}
+use Rattle.bitpacking.proofs.Facts.{with_fact, with_last_fact}
 use Rattle.bitpacking.specs.declared.memory.Steps.{Steps}
 use Rattle.bitpacking.specs.contracts.memory.Steps as T
 use Rattle.bitpacking.specs.contracts.memory.Steps.record as f
@@ -69,4 +69,4 @@ record_spec 𝓤 𝓛 𝓜 𝓡 wired =
     move ! (3 ∷ []) $ group ! 3 $
     nothing ! $ nothing ! $ join ! $ nothing ! $ join ! $ nothing ! $ join ! $ nothing ! $ join ! $ move ! (1 ∷ 0 ∷ []) $ join ! $
     nothing ! $ move ! (2 ∷ 0 ∷ []) $ join ! $ feq_i ! _ (vunit ∷ []) _ refl $ move ! (1 ∷ 2 ∷ 0 ∷ []) $ group ! 3 $ frame ! $
-    tells ! refl $ tells ! refl $ tells ! (back h.inside bits_in bits_out enough) $ tells_last ! refl))))
+    with_fact ! refl $ with_fact ! refl $ with_fact ! (back h.inside bits_in bits_out enough) $ with_last_fact ! refl))))

@@ -11,7 +11,7 @@ use denote.Shadow.{pure_i}
 use denote.Steps.{nothing}
 use denote.Triple.Entry.{on_entry}
 use denote.Triple.Walked.{ends_at}
-use Rattle.bitpacking.proofs.ForCallers.{tells, tells_last}
+use Rattle.bitpacking.proofs.ForCallers.{with_fact, with_last_fact}
 use Rattle.bitpack_lists.specs.declared.blocks.reads.Reads.{Reads}
 use Rattle.bitpack_lists.specs.contracts.blocks.reads.Reads as T
 use Rattle.bitpack_lists.specs.contracts.blocks.reads.Reads.new as f
@@ -37,4 +37,4 @@ new_spec 𝓤 𝓛 𝓜 𝓡 wired =
     suffices ! _ (ends_at 𝓛 f.ended tt c ((κs, qs, bounds, a, tt), g) made zeros tt tt) $
     pure_i ! (T.the_row.own_val zeros (made ∷ [])) ((λ vss. (tt, ((λ uss. (tt, tt)), tt))), tt) (((vstruct vnil ∷ [], tt), (refl, ((tt, (refl, tt)), tt))), tt) $
     nothing ! $ join ! $ nothing ! $ join ! $ frame ! $
-    tells ! refl $ tells_last ! refl))
+    with_fact ! refl $ with_last_fact ! refl))

@@ -5,7 +5,7 @@ use Rattle.std.proofs.lemmas.List.Elements.{All-take}
 use Rattle.bitpacking.specs.Codes.{values_of}
 use Rattle.bitpacking.specs.Layout.{codes_of, size}
 use Rattle.bitpacking.proofs.ForCallers.{AreWords-from_slice}
-use Rattle.bitpack_lists.proofs.lemmas.blocks.BlockValues.{values_of-held}
+use Rattle.bitpack_lists.proofs.lemmas.blocks.BlockValues.{values_of-packed}
 use Rattle.bitpack_lists.proofs.lemmas.blocks.ListLemmas.{lanes-is}
 use Rattle.bitpack_lists.proofs.blocks.reads.Reads.unpack_body.Goals as goal
 
@@ -29,6 +29,6 @@ returns-clause-block g c =
     let long : length body ≡ size lanes width = rw same at c.body-body.ensures.len in
     let words = All-take (λ v. v < 2 ^ 32) (32 * lanes) c.decompress_kind.new.decompressed (AreWords-from_slice c.decompress_kind.new.decompressed c.type_inv.values) in
     ap (λ n. take n c.decompress_kind.new.decompressed) g.met.P.BitPacker.block_len
-    ∙ values_of-held lanes width c.args.kind body c.requires.room.start c.requires.width long (take (32 * lanes) c.decompress_kind.new.decompressed) words
+    ∙ values_of-packed lanes width c.args.kind body c.requires.room.start c.requires.width long (take (32 * lanes) c.decompress_kind.new.decompressed) words
     (rw (take_all (size lanes width) body (omega (arith, long))) at c.decompress_kind.ensures.unpacked.block)
     ∙ ap (λ xs. values_of c.args.kind (codes_of lanes width xs)) (rw same at c.body-body.ensures.body)

@@ -4,7 +4,7 @@ use Rattle.std.proofs.lemmas.List.{length-take}
 use Rattle.std.proofs.lemmas.Nat.{mul-add-lt, mul-le}
 use Rattle.bitpacking_register.specs.Words.{shifted_left, shifted_right}
 use Rattle.bitpacking.proofs.LaneEquations.{lane_code, lane_word, Layout-from_lanes}
-use Rattle.bitpacking.proofs.PackedLane.{Packed-start, Packed-keep, Packed-store, Packed-end, room_left, row_room}
+use Rattle.bitpacking.proofs.PackedLane.{Packed-start, Packed-append, Packed-store, Packed-end, room_left, row_room}
 use Rattle.bitpacking.proofs.WordsOfParts.{row_after, row_at}
 use Rattle.bitpacking.proofs.RegisterLemmas.{lane-map, lane-zip2, lane-splat}
 use Rattle.bitpacking.proofs.RowSteps.{codes_step, rest_step}
@@ -18,7 +18,7 @@ rows-init g c =
     let all : List ℕ = g.T.Transformer.block_codes c.args.start c.args.source.now.words.now in
     let none : lanes * 0 ≡ 0 = omega arith in
     record {
-      place = omega arith;
+      offset = omega arith;
       filled = omega arith;
       codes = rw none (ap (λ f. f c.args.source.now.words.now) (sym c.after-transformer.ensures));
       packed = λ lane lt.
@@ -41,7 +41,7 @@ pub store-requires-clause-within : goal.store-requires-clause-within
 store-requires-clause-within g c =
     let there : c.rows.stored < c.args.width =
     room_left c.args.width c.rows.i c.rows.stored c.rows.filled c.rows-test.true
-    c.rows.invariant.place c.if-filled-width-lt32.false c.rows.invariant.filled in
+    c.rows.invariant.offset c.if-filled-width-lt32.false c.rows.invariant.filled in
     row_room g.R.Register.LANES c.rows.stored c.args.width (length c.rows.target.bytes.now) there
     (omega (arith, c.rows.invariant.same_room, c.requires.can.can.room))
 
@@ -79,16 +79,16 @@ rows-preserved g c =
     (count c.transform-codes.result) c.shift_left.ensures lane lt) in
     let there : 32 ≤ c.rows.filled + width → c.rows.stored < width =
     λ full. room_left width i c.rows.stored c.rows.filled c.rows-test.true
-    c.rows.invariant.place full c.rows.invariant.filled in
+    c.rows.invariant.offset full c.rows.invariant.filled in
     elim c.if-filled-width-lt32.branch [
       | then-filled-width-lt32 w ↦ rw (w.target-is, w.pending-is, w.filled-is, w.stored-is, w.steps-is) (record {
-        place = omega arith;
+        offset = omega arith;
         filled = omega arith;
         codes = next;
         packed = λ lane lt. rw (word lane lt)
-            (Packed-keep width (lane_word lanes c.rows.target.bytes.now lane) (lane_code lanes all lane)
+            (Packed-append width (lane_word lanes c.rows.target.bytes.now lane) (lane_code lanes all lane)
             i c.rows.stored c.rows.filled (get_or pending lane 0) (get_or codes lane 0)
-            (code lane lt) (small lane lt) c.rows.invariant.place (omega arith) (c.rows.invariant.packed lane lt));
+            (code lane lt) (small lane lt) c.rows.invariant.offset (omega arith) (c.rows.invariant.packed lane lt));
         are_bytes = c.rows.invariant.are_bytes;
         rest = c.rows.invariant.rest;
         same_reference = c.rows.invariant.same_reference;
@@ -99,7 +99,7 @@ rows-preserved g c =
         held = omega (arith, c.rows.invariant.held, c.rows.invariant.inside, c.requires.can.bits, c.load.ensures.counts.held);
       })
       | else-filled-width-lt32 w ↦ rw (w.target-is, w.pending-is, w.filled-is, w.stored-is, w.steps-is) (record {
-        place = omega arith;
+        offset = omega arith;
         filled = omega arith;
         codes = next;
         packed = λ lane lt.
@@ -107,7 +107,7 @@ rows-preserved g c =
             (count c.transform-codes.result) w.shift_right-pending.ensures lane lt)
             (Packed-store width (lane_word lanes c.rows.target.bytes.now lane) (lane_word lanes w.store.new.self.bytes.now lane)
             (lane_code lanes all lane) i c.rows.stored c.rows.filled (get_or pending lane 0) (get_or codes lane 0)
-            (code lane lt) (small lane lt) c.rows.invariant.place w.if-filled-width-lt32.false (omega arith)
+            (code lane lt) (small lane lt) c.rows.invariant.offset w.if-filled-width-lt32.false (omega arith)
             (λ q h. w.store.ensures.before (lanes * q + lane)
             (omega (arith, mul-le lanes (q + 1) lanes c.rows.stored (omega arith) (omega arith))))
             (w.store.ensures.stored lane lt ∙ word lane lt)
@@ -144,7 +144,7 @@ returns-clause-packed g c =
                   joined-front lanes width bytes lane lt
                   ∙ Packed-end width (lane_word lanes bytes lane) (lane_code lanes all lane)
                   c.rows.i c.rows.stored c.rows.filled (get_or (g.R.Register.words c.rows.pending) lane 0)
-                  whole c.rows.invariant.place c.rows.invariant.filled (c.rows.invariant.packed lane lt);
+                  whole c.rows.invariant.offset c.rows.invariant.filled (c.rows.invariant.packed lane lt);
             });
         rest = c.rows.invariant.rest;
         count = ap (λ n. 4 * n * c.args.width) c.LANES.ensures;

@@ -7,7 +7,7 @@ use Rattle.bitpacking.proofs.kernel.rolled.RolledPack.pack.Given as goal
 
 abbrev pub invariant-rows : goal.invariant-rows
 invariant-rows g l = record {
-  place : 32 * l.stored + l.filled ≡ l.width * l.i;
+  offset : 32 * l.stored + l.filled ≡ l.width * l.i;
   filled : l.filled < 32;
   codes : drop (g.R.Register.LANES * l.i) (g.T.Transformer.block_codes l.start l.source.words.now)
       ≡ g.T.Transformer.codes l.transformer (drop (g.R.Register.LANES * l.i) l.source.words.now);

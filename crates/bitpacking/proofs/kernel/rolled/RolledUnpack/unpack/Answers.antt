@@ -20,7 +20,7 @@ rows-init g c =
     let lanes : ℕ = g.R.Register.LANES in
     let none : lanes * 0 ≡ 0 = omega arith in
     record {
-      place = omega arith;
+      offset = omega arith;
       left = omega arith;
       unpacked = λ lane lt.
           rw (lane-splat 0 lanes (g.R.Register.words c.splat-pending.result) c.splat-pending.ensures lane lt)
@@ -40,7 +40,7 @@ rows-init g c =
 pub load-word-requires : goal.load-word-requires
 load-word-requires g c =
     let there : c.rows.loaded < c.args.width =
-    words_left c.args.width c.rows.i c.rows.loaded c.rows.left c.rows-test.true c.rows.invariant.place c.if-left-width.true in
+    words_left c.args.width c.rows.i c.rows.loaded c.rows.left c.rows-test.true c.rows.invariant.offset c.if-left-width.true in
     row_room g.R.Register.LANES c.rows.loaded c.args.width (length c.args.source.now.bytes.now) there c.requires.can.can.whole
 
 pub put-requires-clause-within : goal.put-requires-clause-within
@@ -75,7 +75,7 @@ rows-preserved g c =
     λ lane lt. elim c.if-left-width.branch [
       | then-left-width w ↦
           let there : c.rows.loaded < width =
-          words_left width i c.rows.loaded c.rows.left c.rows-test.true c.rows.invariant.place w.if-left-width.true in
+          words_left width i c.rows.loaded c.rows.left c.rows-test.true c.rows.invariant.offset w.if-left-width.true in
           let words : List ℕ = g.R.Register.words w.load-word.result in
           let read : get_or words lane 0 ≡ digit 32 (number lane) c.rows.loaded =
           w.load-word.ensures.words lane lt
@@ -94,7 +94,7 @@ rows-preserved g c =
           rw (w.codes-is, w.pending-is, w.left-is, w.loaded-is, whole, over)
           (Unpacked-load width (number lane) i c.rows.loaded c.rows.left
           (get_or pending lane 0) (get_or words lane 0)
-          w.if-left-width.true (omega arith) c.rows.invariant.place read (c.rows.invariant.unpacked lane lt))
+          w.if-left-width.true (omega arith) c.rows.invariant.offset read (c.rows.invariant.unpacked lane lt))
       | else-left-width w ↦
           rw (
             w.codes-is,
@@ -112,7 +112,7 @@ rows-preserved g c =
     let layout : Layout lanes width codes front = Layout-codes_of lanes width front (simp length-take (omega (arith, c.requires.can.can.whole))) in
     let rows_stored : g.S.Sink.rows_stored c.rows.sink ≡ i = c.rows.invariant.rows_stored in
     record {
-      place = elim c.if-left-width.branch [
+      offset = elim c.if-left-width.branch [
         | then-left-width w ↦ rw (w.left-is, w.loaded-is) (omega arith)
         | else-left-width w ↦ rw (w.left-is, w.loaded-is) (omega arith)
       ];

@@ -9,7 +9,7 @@ use Rattle.bitpacking.proofs.kernel.rolled.RolledUnpack.unpack.Given as goal
 
 abbrev pub invariant-rows : goal.invariant-rows
 invariant-rows g l = record {
-  place : 32 * l.loaded ≡ l.width * l.i + l.left;
+  offset : 32 * l.loaded ≡ l.width * l.i + l.left;
   left : l.left < 32;
   unpacked : (lane : ℕ) → lane < g.R.Register.LANES
       → Unpacked l.width (joined 32 (lane_word g.R.Register.LANES l.source.bytes.now lane) l.width)

@@ -1,0 +1,15 @@
+-- The part of a greater count.
+use Rattle.std.proofs.Common.{◌∙◌, sym, ap, arith}
+use Rattle.bitpack_ranked.specs.Scores.{part_at}
+use Rattle.bitpack_ranked.proofs.ScoreLemmas.{part_rises}
+use Rattle.bitpack_ranked.proofs.bounds.most_part.Goals as goal
+
+pub returns-in-Some : goal.returns-in-Some
+returns-in-Some g c = λ count le.
+    let word = g.T.AsTerm.its_word c.args.term.now in
+    let is = (g.met.T.AsTerm.is_word c.args.term.now).parts in
+    omega (
+      arith,
+      part_rises word.table is count c.in-Some.count c.args.class (rw c.in-Some.is at le),
+      c.part.ensures ∙ ap (λ table. part_at table c.in-Some.count c.args.class) c.parts.ensures,
+    )
