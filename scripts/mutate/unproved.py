@@ -24,7 +24,7 @@ import threading
 import time
 
 sys.path.insert(1, f"{sys.path[0]}/..")
-from common import ROOT, ended, run, source, words
+from common import ROOT, called, ended, run, source, words
 import changes
 import claims
 import proving
@@ -180,7 +180,8 @@ def tried(room, crate, edits, whole):
 
 def copied(room, *paths):
     """Makes a copy of the tracked files, or of those at these paths, which git tracks there too."""
-    run("sh", "-c", 'git ls-files -z -- "$@" | xargs -0 cp -p --parents --target-directory="$0"', room, *paths)
+    os.makedirs(room, exist_ok=True)
+    called("sh", "-c", 'git ls-files -z -- "$@" | xargs -0 cp -p --parents --target-directory="$0"', room, *paths)
     run("git", "init", "--quiet", room)
     run("git", "add", "--all", folder=room)
 
