@@ -17,10 +17,17 @@ typedef struct {
 /* The ids of a set as keys. */
 static Datum *keys_of(const bitpacking_set *set, int32 *count)
 {
-    size_t len = bitpacking_set_len(set);
-    Datum *keys = palloc_extended(sizeof(Datum) * (len ? len : 1), MCXT_ALLOC_HUGE);
+    size_t len = bitpacking_set_len(set), i;
+    uint32 *ids = new_ids(len);
+    ptrdiff_t unpacked = bitpacking_set_unpack(set, ids, len);
+    Datum *keys;
 
-    bitpacking_set_unpack_wide(set, 0, keys, len);
+    if (unpacked < 0)
+        refuse(unpacked);
+    keys = palloc_extended(sizeof(Datum) * (len ? len : 1), MCXT_ALLOC_HUGE);
+    for (i = 0; i < len; i++)
+        keys[i] = Int64GetDatum(ids[i]);
+    pfree(ids);
     *count = (int32)len;
     return keys;
 }
