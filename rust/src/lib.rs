@@ -17,7 +17,7 @@
 //! # Ok::<(), bitpacking::set::Error>(())
 //! ```
 //!
-//! A block, in which each value has as many bits as the greatest needs:
+//! A block gives each value as many bits as the greatest needs:
 //!
 //! ```
 //! use bitpacking::{BitPacker, BitPacker4x};
