@@ -879,7 +879,7 @@ typedef struct bitpacking_term {
 ptrdiff_t bitpacking_term_start(bitpacking_term *term, const bitpacking_set *set, const bitpacking_column *counts,
                                 const uint32_t *table, size_t table_len);
 
-/* Work space for a term. It may hold anything. After a query, `unpacked` is how many blocks of 128 counts were unpacked for the term. */
+/* Work space for a term. It may hold anything. After a query, `unpacked` is how many blocks of 128 counts were unpacked to rank its documents. */
 typedef struct bitpacking_walk {
     size_t unpacked;
     size_t len;

@@ -1,4 +1,5 @@
-"""What the scripts share: the files of the repository, running a command, and how a script says what passed and what failed."""
+"""What the scripts share: the files of the repository, running a command, and how a script says what passed and what failed: its last line
+is 'N passed, M failed'."""
 
 import os
 import re
@@ -57,9 +58,9 @@ def leave_out(part, why):
     print(f"LEFT OUT: {part}, {why}")
 
 
-def left_out_without(part, *tools):
-    """Says that a whole script is left out, if one of its tools is missing. Returns whether it is."""
-    lacking = missing(*tools)
+def left_out_without(part, *tools, others=()):
+    """Says that a whole script is left out, if one of its tools is missing, or it lacks others. Returns whether it is."""
+    lacking = [*others, *missing(*tools)]
     if lacking:
         leave_out(part, f"since there is no {' and no '.join(lacking)}")
         ended(0, 0)
@@ -81,3 +82,8 @@ def report(checks):
             print(f"FAILED: {name}: {why}")
         passed, failed = passed + (why is None), failed + (why is not None)
     return ended(passed, failed if passed or failed else 1)
+
+
+def reported(part, checks, *tools, others=()):
+    """Reports what a function checks, if nothing is missing. Returns the status of the script."""
+    return 0 if left_out_without(part, *tools, others=others) else report(checks())

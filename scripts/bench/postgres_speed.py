@@ -36,6 +36,8 @@ JOIN = "FROM postings a JOIN postings b USING (doc) WHERE a.word = {A} AND b.wor
 UNION = "FROM (SELECT doc FROM postings WHERE word = {A} UNION SELECT doc FROM postings WHERE word = {B}) u"
 ARRAYS, PACKED = (f"FROM {it} a, {it} b WHERE a.word = {{A}} AND b.word = {{B}}" for it in ("arrays", "packed"))
 AND, HAS = "A and B: how many", "SELECT count(*) FROM {} WHERE word = {{A}} AND {}"
+HAVING = {"postings": "doc = {D}", "arrays": "ids @> ARRAY[{D}]", "packed": "contains(ids, {D})"}
+ALL = "SELECT count(id) FROM (SELECT unnest(ids) AS id FROM {}) q"
 QUERIES = {
     AND: (f"SELECT count(*) {JOIN}", f"SELECT icount(a.ids & b.ids) {ARRAYS}", f"SELECT intersect_len(a.ids, b.ids) {PACKED}"),
     "A and B: the documents": (f"SELECT doc {JOIN}", f"SELECT unnest(a.ids & b.ids) {ARRAYS}", f"SELECT unnest(a.ids & b.ids) {PACKED}"),
@@ -44,15 +46,8 @@ QUERIES = {
         f"SELECT icount(a.ids | b.ids) {ARRAYS}",
         f"SELECT cardinality(a.ids | b.ids) {PACKED}",
     ),
-    "whether A has a document": (
-        HAS.format("postings", "doc = {D}"),
-        HAS.format("arrays", "ids @> ARRAY[{D}]"),
-        HAS.format("packed", "contains(ids, {D})"),
-    ),
-    "all documents of all words": (
-        "SELECT count(doc) FROM postings",
-        *(f"SELECT count(id) FROM (SELECT unnest(ids) AS id FROM {it}) q" for it in ("arrays", "packed")),
-    ),
+    "whether A has a document": [HAS.format(*it) for it in HAVING.items()],
+    "all documents of all words": ("SELECT count(doc) FROM postings", ALL.format("arrays"), ALL.format("packed")),
 }
 
 

@@ -1,17 +1,16 @@
 #!/usr/bin/env python3
-"""Measures queries over the words of a machine's text files: id sets beside plain arrays, CRoaring and Xapian, and the ten best documents by sets and
-columns beside a scan and Xapian. Prints the two tables of docs/SPEED.md, and the numbers of README.md:
+"""Measures queries over the words of a machine's text files: id sets beside plain arrays, CRoaring and Xapian, and the ten best documents
+by sets and columns beside a scan and Xapian. Prints the two tables of docs/SPEED.md, and the numbers of README.md:
 
     scripts/bench/search_speed.py [--rounds N] [--core N] [--megabytes N] [--roaring FOLDER] [FOLDER ..]
     scripts/bench/search_speed.py --try
 
-A document is a paragraph of the first 300 MB of text below the folders, /usr/share and /usr/include if none is given. It has to be 200 MB with 400,000
-paragraphs: `apt-get install linux-doc` brings 150 MB. All ways answer the same random queries in one process on one core, in turns; the answers have
-to be the same. It needs g++, and of Debian libroaring-dev and libxapian-dev. Debian's CRoaring is built for any x86-64: --roaring takes in its
-place one built for this processor, from its sources in FOLDER (`apt-get source libroaring-dev`).
+A document is a paragraph of the first 300 MB of text below the folders, /usr/share and /usr/include if none is given; `apt-get install
+linux-doc` brings 150 MB. All ways answer the same random queries in one process on one core, in turns; the answers have to be the same. It
+needs g++, and of Debian libroaring-dev and libxapian-dev. Debian's CRoaring is built for any x86-64: --roaring takes in its place one built
+for this processor, from its sources in FOLDER (`apt-get source libroaring-dev`).
 
---try measures nothing, and compares the answers on examples/search/corpus/. Ways that are not installed are left out. The last line is then
-'N passed, M failed'.
+--try measures nothing, and compares the answers on examples/search/corpus/. Ways that are not installed are left out.
 """
 import argparse
 import array
@@ -29,7 +28,6 @@ from common import ROOT, Failed, called, leave_out, left_out_without, report, ru
 import measured
 
 HERE, CORPUS = f"{ROOT}/scripts/bench/search_speed", f"{ROOT}/examples/search/corpus"
-LEAST = {"bytes": 200_000_000, "paragraphs": 400_000}
 # The sets of queries with their names in the table: operation, how many queries, and of which words. The words of a query are of one document, of
 # each kind as many as the numbers say; or as many as a number says, which follow each other in the alphabet, as those with one prefix do. A word is
 # frequent if it is in one of 16 documents or more, when Roaring takes bitmaps; rare if it is in two or more, and in fewer than one of 1,000.
@@ -90,7 +88,7 @@ def write_words(folders, folder, most, one_of):
         with open(f"{folder}/{name}", "wb") as file:
             file.writelines(parts)
     print(f"{size:,} bytes of text, {len(classes):,} paragraphs, {len(order):,} words, {sum(lens):,} postings", flush=True)
-    return {"bytes": size, "paragraphs": len(classes)}, lens, [[order[it] for it in words] for words in chosen]
+    return len(classes), lens, [[order[it] for it in words] for words in chosen]
 
 
 def write_queries(path, documents, lens, chosen, sets):
@@ -129,12 +127,9 @@ def built(folder, library, roaring, level):
 def measure(folder, tops, given, one_of, level, *pinned):
     """Measures queries over the words below some folders. Returns how many postings there are, and rows of words."""
     built(folder, measured.library(), given.roaring and os.path.realpath(given.roaring), level)
-    sizes, lens, chosen = write_words(tops, folder, 10**6 * given.megabytes, one_of)
-    few = [f"{sizes[name]:,} {name} are too few" for name, least in LEAST.items() if sizes[name] < least]
-    if few and not given.only_try:
-        sys.exit(f"{', '.join(few)}: name more folders, or `apt-get install linux-doc`")
+    documents, lens, chosen = write_words(tops, folder, 10**6 * given.megabytes, one_of)
     for name, sets in ("queries", SETS), ("ranked", RANKED):
-        write_queries(f"{folder}/{name}", sizes["paragraphs"], lens, chosen, sets)
+        write_queries(f"{folder}/{name}", documents, lens, chosen, sets)
     said = called(*pinned, f"{folder}/search", folder, str(given.rounds))
     return sum(lens), [line.split("\t") for line in said.splitlines()]
 

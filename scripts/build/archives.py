@@ -5,16 +5,13 @@
     rust/out/LEVEL/libbitpacking.a               of one level of x86-64
     rust/out/TARGET/libbitpacking.a              for aarch64, which has one level
 
-It proves the crate `bitpacking_c` once, and the crates below it that are not proved in out/proved/ from these sources. Each level and target
-takes that proof, and only compiles.
+It proves the crate `bitpacking_c` once, and those below it that out/proved/ has not of these sources; each level and target takes that
+proof, and only compiles. Then it looks at each archive: what it exports and needs, its data and unwinding, and its instructions. Wrong
+archives are refused.
 
-Then it looks at each archive: what it exports and needs, its data and unwinding, and its instructions. Wrong archives are refused: those of one
-another.
-
-If no source changed since the last run nothing is built. After `archives.py --fast` cargo builds the archives of x86-64 from the same sources
-without a proof (scripts/build/by_cargo.py), until `archives.py` is called without it: an installation says so, no release has them, and no
-table of a page is written over them. It needs rt, cc, ld and nm, objcopy, objdump and ar of binutils; with
---in-check it is left out if it lacks one. The last line is 'N passed, M failed'.
+If no source changed since the last run nothing is built. After `archives.py --fast` cargo builds the archives of x86-64 from the same
+sources without a proof (scripts/build/by_cargo.py), until `archives.py` is called without it: an installation says so, no release has them,
+and no table of a page is written over them. With --in-check it is left out if it lacks a tool. The tests over archives call it.
 """
 import contextlib
 import functools
@@ -183,15 +180,21 @@ def need():
         raise Failed("; ".join(wrong))
 
 
-def status_without(part, *tools):
-    """The exit status of a script over the archives that cannot run, once it has said why: a tool is missing, or an archive is not
+def status_without(part, *tools, others=()):
+    """The exit status of a script over the archives that cannot run, once it has said why: it lacks a tool or others, or an archive is not
     right. None if it can run."""
-    if left_out_without(part, *TOOLS, *tools):
+    if left_out_without(part, *TOOLS, *tools, others=others):
         return 0
     try:
         return need()
     except Failed as why:
         return report([("the archives", str(why))])
+
+
+def reported(part, checks, *tools, others=()):
+    """Reports what a function checks over the archives, if nothing is missing. Returns the status of the script."""
+    status = status_without(part, *tools, others=others)
+    return report(checks()) if status is None else status
 
 
 def main():

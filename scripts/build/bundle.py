@@ -1,23 +1,18 @@
-#!/usr/bin/env python3
-"""Writes what those need who have no rt, into FOLDER: a file for each processor, such as bitpacking-2.0.0-linux-x86_64.tar.gz. It has
-the header, the archives for the processor, the sources of the Rust crate, the Python package, the PostgreSQL extension, the examples, the
+"""The bundles of a release, for those who have no rt: a file for each processor, such as bitpacking-2.0.0-linux-x86_64.tar.gz. It has the
+header, the archives for the processor, the sources of the Rust crate, the Python package, the PostgreSQL extension, the examples, the
 vectors, the licence, all pages, and scripts/build/install.py.
 
-    bundle.py FOLDER
-
-The files lie as in the repository, in a folder with the name of the bundle, so that the commands of the pages work there, but for those that
-build and check. They are those of the last commit: if git reports a change, or a file that it does not track, nothing is written. The same files
-give the same bytes. It prints the names of the files that it wrote. The status is 0, 1 if it failed, or 2 if it was called wrongly or lacks a tool.
+The files lie as in the repository, in a folder with the name of the bundle, so that the commands of the pages work there, but for those
+that build and check. They are those of the last commit: if git reports a change, or a file that it does not track, nothing is written. The
+same files give the same bytes.
 """
 import glob
 import os
-import sys
 
-sys.path.insert(1, f"{sys.path[0]}/..")
-from common import ROOT, Failed, called, missing, run, version, words
+from common import ROOT, called, missing, run, version
 import archives
 
-PAGES = ["LICENSE", "README.md", "CHANGELOG.md", "CONTRIBUTING.md", "docs/*.md", "docs/*/*.svg", "crates/*/README.md", "rust/README.md"]
+PAGES = ["LICENSE", "README.md", "CHANGELOG.md", "CONTRIBUTING.md", "docs/*.md", "crates/*/README.md", "rust/README.md"]
 FILES = [*PAGES, "include/*.h", "c/symbols.c", "vectors/*.tsv", "vectors/decoders.py", "examples/*.c"]
 FILES += [*(f"examples/{it}/**/*.*" for it in ("search", "numbers", "web")), "examples/dask/*.*"]
 FILES += ["Cargo.toml", "Cargo.lock", "crates/*/src/**/*.rt", "rust/c/*.*"]
@@ -66,23 +61,3 @@ def why_not(in_check=False):
     if not in_check and changed():
         return f"this is not in the last commit: {changed()[0]}"
     return "the archives are not proved: scripts/build/archives.py builds those that are" if archives.are_fast() else None
-
-
-def main():
-    given, lacking = words(), missing(*archives.TOOLS)
-    if len(given) != 1 or not os.path.isdir(given[0]):
-        print("usage: bundle.py FOLDER", file=sys.stderr)
-        return 2
-    try:
-        if why := why_not() or (f"there is no {' and no '.join(lacking)}" if lacking else None):
-            raise Failed(why)
-        archives.need()
-        print(*(write(given[0], processor) for processor in ARCHIVES), sep="\n")
-    except Failed as why:
-        print(f"bundle.py: {why}", file=sys.stderr)
-        return 2 if lacking else 1
-    return 0
-
-
-if __name__ == "__main__":
-    sys.exit(main())

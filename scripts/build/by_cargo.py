@@ -21,25 +21,21 @@ def cargo(word, target, *words, flags=""):
     return called("cargo", word, "--quiet", "--offline", "--locked", *words, folder=ROOT, env=env)
 
 
-def joined(library, to):
-    """Writes what the functions of the header need of a static library as one object, which shows their names alone."""
-    names, listed = sorted(choosing.prototypes()), f"{os.path.dirname(to)}/names"
-    choosing.written(listed, "".join(f"{name}\n" for name in names))
-    called("ld", "-r", *(word for name in names for word in ("-u", name)), library, "-o", to)
-    # A panic ends the program, so nothing unwinds.
-    unwinds = (".llvm*", ".eh_frame", ".gcc_except_table*", f".data.DW.ref.{UNWINDS}")
-    called("objcopy", "--strip-debug", *(f"--remove-section={name}" for name in unwinds), to)
-    called("objcopy", f"--keep-global-symbols={listed}", f"--strip-symbol={UNWINDS}", to)
-
-
 def archive(level, profile="release", top=OUT):
-    """Builds the archive for a level of x86-64, in the folder of its name. Returns its path."""
+    """Builds the archive for a level of x86-64, in the folder of its name: what the functions of the header need of cargo's static library
+    as one object, which shows their names alone. Returns its path."""
     folder, target = f"{top}/{level}", f"{OUT}/{level}/target"
+    whole, names = f"{target}/whole", sorted(choosing.prototypes())
     os.makedirs(folder, exist_ok=True)
     cargo("build", target, "--profile", profile, "--package", "bitpacking_c", flags=f"-C target-cpu={level}")
-    joined(f"{target}/{profile}/libbitpacking.a", f"{target}/whole.o")
-    called("ar", "rcsD", f"{target}/whole.a", f"{target}/whole.o")
-    os.replace(f"{target}/whole.a", f"{folder}/libbitpacking.a")
+    choosing.written(f"{target}/names", "".join(f"{name}\n" for name in names))
+    called("ld", "-r", *(word for name in names for word in ("-u", name)), f"{target}/{profile}/libbitpacking.a", "-o", f"{whole}.o")
+    # A panic ends the program, so nothing unwinds.
+    unwinds = (".llvm*", ".eh_frame", ".gcc_except_table*", f".data.DW.ref.{UNWINDS}")
+    called("objcopy", "--strip-debug", *(f"--remove-section={name}" for name in unwinds), f"{whole}.o")
+    called("objcopy", f"--keep-global-symbols={target}/names", f"--strip-symbol={UNWINDS}", f"{whole}.o")
+    called("ar", "rcsD", f"{whole}.a", f"{whole}.o")
+    os.replace(f"{whole}.a", f"{folder}/libbitpacking.a")
     return f"{folder}/libbitpacking.a"
 
 

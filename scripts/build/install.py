@@ -7,15 +7,14 @@
     install.py PREFIX --remove                          takes away what it wrote there, with the folders that it made
 
 LEVEL is that of the archive: x86-64, x86-64-v2 or x86-64-v3; without it the archive for all levels is installed; for aarch64 LEVEL is
-aarch64-unknown-linux-gnu, and CC has to name a compiler for it. The archives are those that scripts/build/archives.py wrote; a bundle has them.
-If the variable DESTDIR is set, all is written below that folder, as packages want it, and names PREFIX alone.
+aarch64-unknown-linux-gnu, and CC has to name a compiler for it. The archives are those that scripts/build/archives.py wrote; a bundle has
+them. If the variable DESTDIR is set, all is written below that folder, as packages want it, and names PREFIX alone.
 
 With `--from cargo` the library for x86-64 is compiled by cargo from the proved sources, without the prover's compiler, as it is after
 `archives.py --fast`: the last line says so, and lib/pkgconfig/bitpacking.pc, and the variable bitpacking_COMPILER of CMake.
 
-The shared library exports each function of the header, the one that is only inline there too. Its name ends with the major version: programs need
-a new link after a change of that. The names of what was written are in share/bitpacking/installed. A file that another program wrote is not
-replaced. The status is 0, 1 if it failed, or 2 if it was called wrongly or lacks a tool.
+The name of the shared library ends with the major version: programs need a new link after a change of that. A file that another program
+wrote is not replaced. The status is 0, 1 if it failed, or 2 if it was called wrongly.
 """
 import os
 import re
@@ -24,7 +23,7 @@ import sys
 import tempfile
 
 sys.path.insert(1, f"{sys.path[0]}/..")
-from common import ROOT, Failed, called, missing, source
+from common import ROOT, Failed, called, missing, source, version
 import archives
 import by_cargo
 import choosing
@@ -76,12 +75,6 @@ elseif(PACKAGE_FIND_VERSION_MAJOR EQUAL {major} AND NOT PACKAGE_VERSION VERSION_
     endif()
 endif()
 """
-
-
-def version():
-    """The version that the header has, with points: 1.2.3 for the number 1002003."""
-    number = int(re.search(r"^#define BITPACKING_VERSION (\d+)", source(HEADER), re.M)[1])
-    return f"{number // 1000000}.{number // 1000 % 1000}.{number % 1000}"
 
 
 def shared_library():

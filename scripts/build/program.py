@@ -1,6 +1,6 @@
 #!/usr/bin/env python3
 """Builds the line program for the script `bitpack`: proves the crates below it and the program, and prints a line for each crate on standard
-error. On a terminal a line below shows the crate that is being proved. The rest goes to out/build.log. The status is 1 if a proof failed.
+error. The rest goes to out/build.log. The status is 1 if a proof failed.
 """
 import os
 import re
@@ -10,19 +10,6 @@ sys.path.insert(1, f"{sys.path[0]}/..")
 from common import ROOT
 import proving
 
-PROGRAM = "bitpack_main"
-CRATES = [*proving.libraries(PROGRAM), PROGRAM]
-BACK = "\r\033[K" if sys.stderr.isatty() else ""
-
-
-def shown(crate, line):
-    """Shows what a line of a build says of a crate."""
-    proved = re.match(r"logic=proved functions=(\d+)", line)
-    if BACK and line == f"{crate}: rattle build\n":
-        print(f"{BACK}bitpack: proving {crate}, crate {CRATES.index(crate) + 1} of {len(CRATES)}", end="", file=sys.stderr, flush=True)
-    if proved:
-        print(f"{BACK}bitpack: proved {crate}, functions: {proved[1]}", file=sys.stderr, flush=True)
-
 
 def main():
     os.makedirs(f"{ROOT}/out", exist_ok=True)
@@ -31,14 +18,14 @@ def main():
         def tell(crate, line):
             log.write(line)
             log.flush()
-            shown(crate, line)
+            if proved := re.match(r"logic=proved functions=(\d+)", line):
+                print(f"bitpack: proved {crate}, functions: {proved[1]}", file=sys.stderr, flush=True)
 
         try:
-            proving.program(PROGRAM, tell)
+            proving.program("bitpack_main", tell)
         except (proving.Failed, KeyboardInterrupt) as why:
             # The script `bitpack` shows the end of the log, so what is not proved is there once more.
             print(f"{why.said}{why}" if isinstance(why, proving.Failed) else "interrupted", file=log)
-            print(BACK, end="", file=sys.stderr)
             return 1
     return 0
 

@@ -5,11 +5,10 @@
     fimulowen-VERSION-cp311-abi3-linux_x86_64.whl    the Python package
     SHA256SUMS                                       for `sha256sum -c SHA256SUMS`
 
-VERSION is that of CHANGELOG.md, and the files are those of the last commit. They are put in place of those of an earlier release only if all of them
-can be used: each bundle in an empty folder, where its library is installed and a program of it in C is run; on x86_64 also the first commands of
-the search engine, and the making of the PostgreSQL extension; the wheel in a new environment, without an index; and the checksums. What is
-compiled may not name a folder of this machine. With --in-check nothing is put in place, and what a tool is missing for is left out, also a
-commit. The status is 0, 1 if something failed, or 2 if a tool is missing.
+VERSION is that of CHANGELOG.md, and the files are those of the last commit. They are put in place of those of an earlier release only if
+all of them can be used: each bundle in an empty folder; the wheel in a new environment, without an index; and the checksums. What is
+compiled may not name a folder of this machine. With --in-check nothing is put in place, and what a tool or a commit is missing for is left
+out. The status is 0, 1 if something failed, or 2 if a tool is missing.
 """
 import glob
 import os
@@ -25,6 +24,7 @@ import archives
 import bundle
 import c
 import choosing
+from files import failed, printed
 import python
 
 OUT = f"{ROOT}/out/release"
@@ -35,11 +35,6 @@ IN_PYTHON = "import fimulowen; ids = fimulowen.IdSet([7, 9, 10, 300]); print(fim
 SEARCH, FINDS = "examples/search/README.md", "docs/"
 # What compiles C programs for each processor, and what runs them.
 BY_PROCESSOR = {"x86_64": ("cc", []), "aarch64": (c.CROSS, [c.QEMU])}
-
-
-def wrong(done, wanted=None):
-    """What is wrong with a command that ended, or None."""
-    return None if done.returncode == 0 and wanted in (None, done.stdout) else f"status {done.returncode}: {done.stdout[-2000:]}"
 
 
 def named_folders(top):
@@ -61,14 +56,14 @@ def wheel(folder):
     with tempfile.TemporaryDirectory(prefix="release-") as room:
         package = python.Package(room, chosen)
         done = run(sys.executable, f"{ROOT}/scripts/build/install.py", package.prefix)
-        yield "the library for the wheel", wrong(done)
+        yield "the library for the wheel", failed(done)
         yield "the wheel", package.call(chosen, "-m", "build", "--no-isolation", "--wheel", "--outdir", folder)
         found = glob.glob(f"{folder}/*.whl")
         yield "a new environment", package.call(chosen, "-m", "venv", "--system-site-packages", package.room)
         yield "installing the wheel", package.call(f"{package.room}/bin/python", "-m", "pip", "install", "--no-deps", *found)
         yield "the folders that the wheel names", ", ".join(named_folders(package.room)) or None
         done = run(f"{package.room}/bin/python", "-c", IN_PYTHON, folder=room)
-        yield "a program over the wheel", wrong(done, f"{version()} 7 (3, 300)\n")
+        yield "a program over the wheel", printed(done, f"{version()} 7 (3, 300)\n")
 
 
 def unpacked(path, processor):
@@ -86,11 +81,11 @@ def unpacked(path, processor):
             return
         level = [] if processor == "x86_64" else ["--level", archives.ARM]
         done = run(sys.executable, f"{top}/scripts/build/install.py", prefix, *level, folder=room, env=dict(os.environ, CC=compiler))
-        yield f"installing it for {processor}", wrong(done)
+        yield f"installing it for {processor}", failed(done)
         names = [f"-I{prefix}/include", f"{top}/{PROGRAM}", f"{prefix}/lib/libbitpacking.a"]
         made = run(compiler, "-static", *names, "-o", f"{room}/program")
         done = made if made.returncode else run(*runner, f"{room}/program")
-        yield f"{PROGRAM} over it for {processor}", wrong(done, PRINTS)
+        yield f"{PROGRAM} over it for {processor}", printed(done, PRINTS)
         if processor == "x86_64":
             yield f"the first commands of {SEARCH} in it", in_search(top)
             yield from in_postgres(top)
@@ -100,27 +95,25 @@ def in_search(top):
     """What is wrong with the first commands of the search engine in a bundle, which install the library into the folder `prefix`, or None."""
     commands = re.search(r"(?:^    .*\n)+", source(SEARCH), re.M)[0]
     done = run("sh", "-e", "-c", commands, folder=top)
-    return wrong(done) or (None if FINDS in done.stdout else f"it printed {done.stdout}")
+    return failed(done) or (None if FINDS in done.stdout else f"it printed {done.stdout}")
 
 
 def in_postgres(top):
     """The PostgreSQL extension, made in a bundle over the library in its folder `prefix`."""
-    lacking = missing("pg_config", "make", "nm")
+    lacking = missing("pg_config", "make")
     if lacking or not os.path.isfile(run("pg_config", "--pgxs").stdout.strip()):
         leave_out("the PostgreSQL extension over the bundle", f"since there is no {' and no '.join(lacking) or 'postgresql-server-dev-15'}")
         return
     done = run("make", "-C", "postgres", "BITPACKING=prefix", folder=top, env=dict(os.environ, PWD=top))
-    yield "making the PostgreSQL extension in it", wrong(done)
-    symbols = run("nm", "-D", f"{top}/postgres/idset.so").stdout
-    right = " T Pg_magic_func" in symbols and "bitpacking_" not in symbols
-    yield "the PostgreSQL extension that was made", None if right else symbols[-2000:]
+    yield "making the PostgreSQL extension in it", failed(done)
+    yield "the PostgreSQL extension that was made", None if os.path.isfile(f"{top}/postgres/idset.so") else "there is none"
 
 
 def sums(folder):
     """Writes the checksums of all files of a folder. The check of them."""
     done = run("sha256sum", *sorted(os.listdir(folder)), folder=folder)
     choosing.written(f"{folder}/{SUMS}", done.stdout)
-    yield "the checksums", wrong(run("sha256sum", "--check", "--quiet", SUMS, folder=folder))
+    yield "the checksums", failed(run("sha256sum", "--check", "--quiet", SUMS, folder=folder))
 
 
 def checks(folder):

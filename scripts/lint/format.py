@@ -10,7 +10,7 @@ VERSION = "23.1.0"
 # The folders of the packages. That of rust/bench/ has tables in long lines.
 PACKAGES = [".", "rust/c", "rust/fuzz", "scripts/test/translator", "examples/numbers", "examples/search/rust", "examples/web"]
 # What is not read for spelling, and words that are no mistakes.
-UNREAD = [f":!:{it}" for it in ("vectors", "Cargo.lock", "**/Cargo.lock", "crates/*/proofs/*", "scripts/mutate/edits", "*.svg", "*.tsv")]
+UNREAD = [f":!:{it}" for it in ("vectors", "Cargo.lock", "**/Cargo.lock", "crates/*/proofs/*", "scripts/mutate/edits", "*.tsv")]
 WORDS = "crate,crates,upto,nin,whats"
 
 

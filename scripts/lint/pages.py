@@ -3,6 +3,7 @@
 
 - A link leads to a file or folder of the repository, and its anchor to a heading of that page. A file of the repository that a code span names is
   there: its whole path, or a path or name that a file's path ends with.
+- A bar of docs/speed.svg is as long as its number, which the table of README.md has.
 - A row of docs/PROOFS.md links the function, type or law that has its contract, and after it names clauses or definitions that this has. Each name
   in its claim is in a file that it links, or in a definition; each number is in a contract that it links, or in a definition that this names.
 """
@@ -126,5 +127,13 @@ def rows():
         yield from (f"{claims.PAGE}: {its[0]}: {why}" for why in faults_of(claim, cited))
 
 
+def bars():
+    for width, number in re.findall(r'width="([\d.]+)"[^>]*/><text[^>]*>([\d.]+)<', text_of("docs/speed.svg")):
+        if abs(float(width) - 320 * float(number)) > 0.1 or not re.search(
+            rf"(?m)^.*\|.*[ ]{re.escape(number)}(?![\d.])", text_of("README.md")
+        ):
+            yield f"docs/speed.svg: a bar of {width} says {number}, where README.md has no table with it, or 320 is 1"
+
+
 if __name__ == "__main__":
-    sys.exit(results([links, files, rows], "pages"))
+    sys.exit(results([links, files, rows, bars], "pages"))

@@ -19,15 +19,10 @@ STRUCTS |= {"TermView": f"{CRATE}/term_view.rt"}
 C_TYPES.update({name: "bitpacking" + re.sub("[A-Z]", r"_\g<0>", name.removesuffix("View")).lower() for name in STRUCTS})
 HEADER, LIMITS = "include/bitpacking.h", "crates/bitpacking/src/limits.rt"
 # Where the version is, beside CHANGELOG.md: as a number, a million times the major one, a thousand times the minor one, and the patch; as text.
-NUMBERS = [
-    (HEADER, r"^#define BITPACKING_VERSION (.*)$"),
-    (f"{CRATE}/version.rt", r"result ≡ (\S+)"),
-    (f"{CRATE}/version.rt", r"^\{\n    (.*)\n\}$"),
-]
-VERSIONS = [
-    ("Cargo.toml", r'^version = "0\.9\.3\+(.*)"$'),
-    *((it, r'^version = "(.*)"$') for it in ("rust/c/Cargo.toml", "python/pyproject.toml")),
-]
+NUMBERS = [(HEADER, r"^#define BITPACKING_VERSION (.*)$")]
+NUMBERS += [(f"{CRATE}/version.rt", it) for it in (r"result ≡ (\S+)", r"^\{\n    (.*)\n\}$")]
+VERSIONS = [("Cargo.toml", r'^version = "0\.9\.3\+(.*)"$')]
+VERSIONS += [(it, r'^version = "(.*)"$') for it in ("rust/c/Cargo.toml", "python/pyproject.toml")]
 
 
 def in_c(written, name=""):

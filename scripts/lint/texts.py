@@ -11,16 +11,8 @@ import re
 from common import ROOT, report, source
 import changes
 
-PAGES = [
-    "README.md",
-    "CONTRIBUTING.md",
-    "CHANGELOG.md",
-    "docs/*.md",
-    "examples/**/README.md",
-    "python/*.md",
-    "crates/*/README.md",
-    "rust/*.md",
-]
+PAGES = ["README.md", "CONTRIBUTING.md", "CHANGELOG.md", "docs/*.md", "examples/**/README.md", "python/*.md"]
+PAGES += ["crates/*/README.md", "rust/*.md"]
 # The texts that a wrong change made, by path.
 CHANGED = {}
 # The text of a file of the repository, which is read once.
@@ -97,16 +89,10 @@ def not_refused(edit, parts):
     return ("; ".join([*others, *missing]) or None) if faults else "nothing refuses it"
 
 
-def checks(parts, folder):
-    """The checks of a script: of each part or wrong change the name, and why it fails, or None."""
+def results(parts, folder):
+    """Runs the parts of a script, then tries its wrong changes. Prints what failed, and returns the status."""
     found = [(part.__name__, "\n    ".join(part()) or None) for part in parts]
-    yield from found
     edits = [] if any(why for _, why in found) else changes.edits_in(folder)
     with multiprocessing.get_context("fork").Pool() as pool:
         tried = pool.starmap(not_refused, ((edit, parts) for edit in edits), chunksize=1)
-    yield from zip((edit.name for edit in edits), tried)
-
-
-def results(parts, folder):
-    """Runs the parts of a script, then tries its wrong changes. Prints what failed, and returns the status."""
-    return report(checks(parts, folder))
+    return report([*found, *zip((edit.name for edit in edits), tried)])

@@ -9,7 +9,7 @@ the one below, and has its contract without a clause. If all edits of a crate ar
 what that kept. The libraries below are those of out/proved/, or are proved first.
 
 `unproved.py --all` tries all edits. `unproved.py WORD ..` tries the edits alone that are named, that break a claim such as sets/1, or that are in a
-folder of scripts/mutate/edits/, such as a crate. The last line is 'N passed, M failed'.
+folder of scripts/mutate/edits/, such as a crate.
 """
 import collections
 import concurrent.futures

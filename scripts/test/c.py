@@ -1,12 +1,11 @@
 #!/usr/bin/env python3
-"""Compiles and runs the C programs over the archive for all levels of the processor and the archive of each level: those of examples/,
-whose output is worked by hand, scripts/test/calls.c and ranking.c, and scripts/test/id_sets.c and columns.c over the tables of
-vectors/. They are compiled as C99 with every warning an error and run with little stack, and once more with the address sanitizer if the compiler
-has it. calls.c is also compiled as C++11 and C++17. In qemu all run on aarch64, and those that read no table on an x86-64 of each level. The
-header has no warning of gcc or clang, from C99 to C23 and from C++11 to C++20, for 64 and 32 bits.
+"""Compiles and runs C programs over the archive for all levels of the processor and that of each level: those of examples/, whose output is
+worked by hand, calls.c and ranking.c, and id_sets.c and columns.c over the tables of vectors/. They are C99 with every warning an error,
+run with little stack, and once more with the address sanitizer. calls.c is also C++11 and C++17. In qemu all run on aarch64, and those that
+read no table on an x86-64 of each level. The header has no warning of gcc or clang, from C99 to C23 and from C++11 to C++20, for 64 and 32
+bits.
 
-The archives are those that scripts/build/archives.py wrote, which is called if they are not there. On Debian, the packages qemu-user-static and
-gcc-aarch64-linux-gnu have what the other processors need. The last line is 'N passed, M failed'; a part that lacks a tool is left out, and named.
+A part that lacks a tool is left out, and named: Debian's qemu-user-static and gcc-aarch64-linux-gnu have what the other processors need.
 """
 import functools
 import re
@@ -17,9 +16,9 @@ import sys
 import tempfile
 
 sys.path.insert(1, f"{sys.path[0]}/..")
-from common import ROOT, leave_out, missing, report, run, source
+from common import ROOT, leave_out, missing, run, source
 import archives
-from files import failed, other
+from files import failed, printed
 import levels
 
 STRICT = ["-Wall", "-Wextra", "-Werror", "-pedantic", f"-I{ROOT}/include"]
@@ -75,18 +74,9 @@ PROGRAMS = {
     # Each row of the tables that it is given.
     ID_SETS: "360 sets, 2052 refusals, 102 pairs\n",
     COLUMN_TABLES: "727 columns, 2605 refusals\n",
-    # Sixty rounds of 1 to 6 words, at least 0 to all of them, in five rooms; and as many among given documents.
-    RANKING: "16200 queries\n",
+    RANKING: "all calls\n",
 }
-VECTORS = {
-    ID_SETS: ["id_sets", "refused_id_sets", "combined_id_sets"],
-    COLUMN_TABLES: ["columns", "refused_columns"],
-}
-
-
-def printed(done, wanted):
-    """What is wrong with a program that ended, or None."""
-    return failed(done) or other(done.stdout, wanted)
+VECTORS = {ID_SETS: ["id_sets", "refused_id_sets", "combined_id_sets"], COLUMN_TABLES: ["columns", "refused_columns"]}
 
 
 @functools.cache
@@ -100,11 +90,12 @@ def with_little_stack():
     resource.setrlimit(resource.RLIMIT_STACK, (STACK, STACK))
 
 
-def compiled_and_run(archive, path, command, *runner, **more):
-    """What is wrong with a program over an archive, or None: it has to print what PROGRAMS says. The command is that of the compiler."""
+def compiled_and_run(path, compiler, *library, runner=(), top=ROOT, **more):
+    """What is wrong with a program over a library, or None: it has to print what PROGRAMS says. The words of the compiler come before it,
+    and those that link the library after it. More is for running it."""
     given = {"input": "".join(source(f"vectors/{table}.tsv") for table in VECTORS.get(path, []))}
     with tempfile.TemporaryDirectory(prefix="c-") as folder:
-        built = run(*command, f"{ROOT}/{path}", "-x", "none", archive, "-o", f"{folder}/program")
+        built = run(*compiler, f"{top}/{path}", "-x", "none", *library, "-o", f"{folder}/program")
         return failed(built) or printed(run(*runner, f"{folder}/program", **given, **more), PROGRAMS[path])
 
 
@@ -125,15 +116,15 @@ def on_other_processors():
     else:
         for program in [it for it in PROGRAMS if it not in VECTORS]:
             for processor in levels.ONE_OF_EACH:
-                command, runner = [*C99, "-static"], [levels.OTHERS, "-cpu", processor]
-                why = compiled_and_run(f"{archives.OUT}/{archives.ALL}", program, command, *runner, stderr=subprocess.DEVNULL)
+                library, runner = f"{archives.OUT}/{archives.ALL}", [levels.OTHERS, "-cpu", processor]
+                why = compiled_and_run(program, [*C99, "-static"], library, runner=runner, stderr=subprocess.DEVNULL)
                 yield f"{program} on {processor}", why
     if missing(CROSS, QEMU) or archives.are_fast():
         leave_out("the C programs on aarch64", f"since there is no {CROSS}, no {QEMU} or no proved archive")
     else:
         for program in PROGRAMS:
-            command = [CROSS, "-std=c99", "-static", *STRICT]
-            yield f"{program} on aarch64", compiled_and_run(archives.archive(archives.ARM), program, command, QEMU)
+            compiler = [CROSS, "-std=c99", "-static", *STRICT]
+            yield f"{program} on aarch64", compiled_and_run(program, compiler, archives.archive(archives.ARM), runner=[QEMU])
 
 
 def uses():
@@ -143,9 +134,8 @@ def uses():
     empty = [f"    {struct} {struct[11:]} = {name}, two_{struct[11:]}[2] = {{{name}, {name}}};" for name, struct in names]
     used = [f"    sum += {name}{'(1)' if given else ''} != 0;" for name, given in macros if not name.endswith("_EMPTY")]
     used += [f"    sum += sizeof {struct[11:]} != sizeof two_{struct[11:]};" for _, struct in names]
-    return "\n".join(
-        ['#include "bitpacking.h"', "int main(void)", "{", *empty, "    unsigned sum = 0;", *used, "    return sum == 0;", "}", ""]
-    )
+    begin, end = ['#include "bitpacking.h"', "int main(void)", "{"], ["    return sum == 0;", "}", ""]
+    return "\n".join([*begin, *empty, "    unsigned sum = 0;", *used, *end])
 
 
 def headers():
@@ -171,19 +161,14 @@ def checks():
         leave_out(f"{CALLS} as C++", "since there is no c++")
     for level, archive in places():
         for program in PROGRAMS:
-            yield f"{program} at {level}", compiled_and_run(archive, program, C99, preexec_fn=with_little_stack)
+            yield f"{program} at {level}", compiled_and_run(program, C99, archive, preexec_fn=with_little_stack)
             if has_sanitizers():
-                yield f"{program} at {level}, sanitized", compiled_and_run(archive, program, [*C99, *SANITIZED])
+                yield f"{program} at {level}, sanitized", compiled_and_run(program, [*C99, *SANITIZED], archive)
         for standard in ["c++11", "c++17"] if in_cpp else []:
-            command = ["c++", f"-std={standard}", *STRICT, "-x", "c++"]
-            yield f"{CALLS} as {standard} at {level}", compiled_and_run(archive, CALLS, command)
+            compiler = ["c++", f"-std={standard}", *STRICT, "-x", "c++"]
+            yield f"{CALLS} as {standard} at {level}", compiled_and_run(CALLS, compiler, archive)
     yield from on_other_processors()
 
 
-def main():
-    status = archives.status_without("the C programs", "cc")
-    return report(checks()) if status is None else status
-
-
 if __name__ == "__main__":
-    sys.exit(main())
+    sys.exit(archives.reported("the C programs", checks, "cc"))

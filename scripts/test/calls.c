@@ -108,7 +108,6 @@ static void chains(void)
     static const uint8_t right[13] = {0xFF, 0xFF, 0xFF, 0xFF, 0xAA, 0xAA, 0xAA, 0xAA, 0xAA, 0xAA, 0xAA, 0xAA, 9};
     uint32_t values[64], back[64];
     uint8_t bytes[256], widths[2] = {9, 9}, wide[2] = {1, 33};
-    size_t room;
     int i;
 
     for (i = 0; i < 64; i++)
@@ -120,12 +119,9 @@ static void chains(void)
     for (i = 0; i < 256; i++)
         EXPECT(bytes[i], 9);
     EXPECT(widths[0] + widths[1], 18);
-    for (room = 12; room <= 256; room += 244) { /* for this chain and no other, and for any */
-        memset(bytes, 9, sizeof bytes);
-        EXPECT(bitpacking_1x_pack_all_sorted(0, values, 64, widths, 2, bytes, room), 12);
-        EXPECT(widths[0] * 10 + widths[1], 12);
-        EXPECT(memcmp(bytes, right, sizeof right), 0);
-    }
+    EXPECT(bitpacking_1x_pack_all_sorted(0, values, 64, widths, 2, bytes, 12), 12);
+    EXPECT(widths[0] * 10 + widths[1], 12);
+    EXPECT(memcmp(bytes, right, sizeof right), 0);
     EXPECT(bitpacking_1x_unpack_all_sorted(0, wide, 2, bytes, 256, back, 64), BITPACKING_BAD_WIDTH);
     EXPECT(bitpacking_1x_unpack_all_sorted(0, widths, 2, bytes, 11, back, 64), BITPACKING_SHORT);
     EXPECT(bitpacking_1x_unpack_all_sorted(0, widths, 2, bytes, 12, back, 63), BITPACKING_BAD_LENGTH);

@@ -1,14 +1,13 @@
 #!/usr/bin/env python3
-"""Tests that what decides can fail, with made-up results: `report`, by which a script ends; `judged` of scripts/check; `taken`, by which it takes a
-library that `rt ci` proved; `why_not` of scripts/mutate/unproved.py, over what a check printed; `not_refused`, by which scripts that read the
-sources try wrong changes; and `chosen` of scripts/mutate/record.py, over a copy in which a source and an edit change: all edits of the crates above
-it are tried then. The last line is 'N passed, M failed'.
+"""Tests that what decides can fail, with made-up results: `report`, by which a script ends; `judged` of scripts/check; `taken`, by which it
+takes a library that `rt ci` proved; `why_not` of scripts/mutate/unproved.py, over what a check printed; `not_refused`, by which scripts
+that read the sources try wrong changes; and `chosen` of scripts/mutate/record.py, if a source or an edit changed: all edits of the crates
+above it are tried then.
 """
 import contextlib
 import importlib.machinery
 import importlib.util
 import io
-import shutil
 import sys
 import tempfile
 from unittest import mock
@@ -125,16 +124,11 @@ def tried(sums, known, by="a hash"):
     return {crate: len(some) for crate, some in record.chosen(edits, sums, known, by).items()}
 
 
-def sums_after(path, more):
-    """The sums of a copy of two crates and their edits, one above the other, as they are and with more at the end of a file."""
-    below = CRATE, "bitpacking"
-    with tempfile.TemporaryDirectory(prefix="sums-") as top:
-        for folder in [*(f"crates/{it}" for it in below), *(f"{changes.FOLDER}/{it}" for it in below)]:
-            shutil.copytree(f"{common.ROOT}/{folder}", f"{top}/{folder}", ignore=shutil.ignore_patterns("out"))
-        before = {crate: record.sum_of(crate, top) for crate in below}
-        with open(f"{top}/{path}", "a", encoding="utf-8") as file:
-            file.write(more)
-        return before, {crate: record.sum_of(crate, top) for crate in below}
+def sums_after(changed):
+    """The sums of two crates and their edits, one above the other, after a change of a file, or as they are."""
+    digest = proving.digest_of
+    with mock.patch.object(proving, "digest_of", lambda path: b"another" if changed and path.endswith(changed) else digest(path)):
+        return {crate: record.sum_of(crate) for crate in (CRATE, "bitpacking")}
 
 
 def records():
@@ -148,14 +142,13 @@ def records():
     one, two = ({it.path for it in record.chosen({"one": edits}, {"one": "1"}, {"one": "1"}, by)["one"]} for by in ("a hash", "another"))
     yield "edits by another commit", one != two, True
     edit = texts.paths(f"{changes.FOLDER}/{CRATE}/*/*.edit")[0]
-    for path, wanted in [(f"crates/{CRATE}/src/word.rt", {CRATE: 100, "bitpacking": 100}), (edit, {CRATE: 100, "bitpacking": 10})]:
-        before, after = sums_after(path, "// More.\n")
-        yield f"edits after a change of {path}", tried(after, before), wanted
+    for path, wanted in {f"crates/{CRATE}/src/word.rt": (100, 100), edit: (100, 10), "no file": (10, 10)}.items():
+        found = tried(sums_after(path), sums_after(None))
+        yield f"edits after a change of {path}", (found[CRATE], found["bitpacking"]), wanted
     with tempfile.TemporaryDirectory(prefix="record-") as top, mock.patch.object(record, "RECORD", f"{top}/tried.txt"):
         record.add({"one": "1", "two": "2"})
         record.add({"two": "3"})
         yield "a record of one crate more", record.known(), {"one": "1", "two": "3"}
-    yield "edits after no change", tried(*sums_after(f"crates/{CRATE}/src/word.rt", "")), {CRATE: 10, "bitpacking": 10}
 
 
 def checks():

@@ -65,9 +65,7 @@ def functions():
     for crate, names in found.items():
         lacking = [it for it in proving.libraries(crate) if not proving.is_proved(it)]
         if lacking:
-            leave_out(
-                f"the proofs of functions of {crate} that changed", f"since out/proved/ has not these sources of {', '.join(lacking)}"
-            )
+            leave_out(f"the proofs of functions of {crate}", f"since out/proved/ has not these sources of {', '.join(lacking)}")
             continue
         only = [word for name in sorted(names) for word in ("--only", name)]
         done = run(f"{proving.kit()}/bin/rattle", "check", *proving.words_of(crate), *proving.proof(*only), folder=f"{ROOT}/crates/{crate}")

@@ -3,10 +3,7 @@
 command line, builds an index and asks it, and compares what the page shows. Then it runs the example's tests, which stop and kill workers and
 damage shards. A script `dask.py` would hide the module of this name.
 
-It takes the first Python, of the one that runs it and /usr/bin/python3, that has what python.py needs, and `distributed`. Without one it is
-left out, and names what is missing: on Debian, `apt-get install` of the packages of PACKAGES brings it. The archives are those that
-scripts/build/archives.py wrote, which is called if they are not there. It ends only processes that it started. The last line is 'N passed,
-M failed'.
+It takes the first Python that has what python.py needs, and `distributed`. It ends only processes that it started.
 """
 import os
 import re
@@ -18,12 +15,11 @@ import sys
 import tempfile
 
 sys.path.insert(1, f"{sys.path[0]}/..")
-from common import ROOT, ended, leave_out, report, source
+from common import ROOT, source
 import archives
 from files import written
 import python
 
-PART = "the index on many machines"
 MODULES = ["distributed", *(it for it in python.MODULES if it not in ("hypothesis", "build"))]
 PACKAGES = "python3-distributed python3-numpy python3-pytest python3-setuptools python3-wheel python3-venv python3-dev"
 EXAMPLE = "examples/dask"
@@ -85,17 +81,10 @@ def checks(interpreter):
         yield from of_page(folder, interpreter)
         if not os.path.exists(f"{package.room}/bin/python"):
             return
-        yield from package.tested("of the index", *TESTS)
-
-
-def main():
-    interpreter, lack = python.chosen(tuple(MODULES))
-    if not interpreter:
-        leave_out(PART, f"since there is no {' and no '.join(lack)}: apt-get install {PACKAGES}")
-        return ended(0, 0)
-    status = archives.status_without(PART, "cc", "bash")
-    return report(checks(interpreter)) if status is None else status
+        yield package.tested("of the index", *TESTS)
 
 
 if __name__ == "__main__":
-    sys.exit(main())
+    interpreter, lack = python.chosen(tuple(MODULES))
+    without = [f"{' and no '.join(lack)}: apt-get install {PACKAGES}"] if lack else []
+    sys.exit(archives.reported("the index on many machines", lambda: checks(interpreter), "cc", "bash", others=without))

@@ -31,3 +31,8 @@ def other(found, right):
 def failed(done):
     """What a command that failed printed, or None."""
     return None if done.returncode == 0 else f"status {done.returncode}: {done.stdout[-3000:]}{(done.stderr or '')[-3000:]}"
+
+
+def printed(done, wanted):
+    """What is wrong with a program that ended, or None."""
+    return failed(done) or other(done.stdout, wanted)

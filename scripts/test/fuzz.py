@@ -13,7 +13,7 @@ import sys
 import tempfile
 
 sys.path.insert(1, f"{sys.path[0]}/..")
-from common import ROOT, ended, leave_out, missing, report, run, words
+from common import ROOT, missing, reported, run, words
 from files import bytes_of, failed, written
 from rows import octets, table
 
@@ -28,11 +28,11 @@ FLAGS = ["-Z sanitizer=address", "-C passes=sancov-module", *(f"-C llvm-args=-sa
 
 
 def libraries():
-    """The library of libFuzzer, and that of the sanitizer, which the nightly toolchain has; None for one that is not there."""
+    """By name the library of libFuzzer, and that of the sanitizer, which the nightly toolchain has; None for one that is not there."""
     clang = run("clang", "-print-resource-dir").stdout.strip()
     rust = run("rustc", "+nightly", "--print", "target-libdir").stdout.strip()
-    found = [f"{clang}/lib/linux/libclang_rt.fuzzer-x86_64.a", f"{rust}/librustc-nightly_rt.asan.a"]
-    return [it if os.path.isfile(it) else None for it in found]
+    paths = [f"{clang}/lib/linux/libclang_rt.fuzzer-x86_64.a", f"{rust}/librustc-nightly_rt.asan.a"]
+    return {os.path.basename(it): it if os.path.isfile(it) else None for it in paths}
 
 
 def build(folder, fuzzer, sanitizer):
@@ -74,15 +74,11 @@ def checks(seconds, fuzzer, sanitizer):
 
 def main():
     given = words("--seconds")
-    lacking = [f"no {it}" for it in missing("cargo", "rustc", "clang", "clang++")]
-    if not lacking and run("rustc", "+nightly", "--version").returncode != 0:
-        lacking = ["no nightly compiler of Rust"]
-    found = [] if lacking else libraries()
-    lacking += [f"no {name}" for name, it in zip(["libclang_rt.fuzzer", "librustc-nightly_rt.asan"], found) if not it]
-    if lacking:
-        leave_out("any bytes as sets and columns", f"since there is {' and '.join(lacking)}")
-        return ended(0, 0)
-    return report(checks(given[given.index("--seconds") + 1] if "--seconds" in given else 60, *found))
+    seconds = given[given.index("--seconds") + 1] if "--seconds" in given else 60
+    tools = ["cargo", "rustc", "clang", "clang++"]
+    found = {} if missing(*tools) else libraries()
+    lacking = [name for name, path in found.items() if not path]
+    return reported("any bytes as sets and columns", lambda: checks(seconds, *found.values()), *tools, others=lacking)
 
 
 if __name__ == "__main__":

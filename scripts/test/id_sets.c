@@ -1,7 +1,7 @@
-/* Reads the tables vectors/id_sets.tsv, vectors/refused_id_sets.tsv and vectors/combined_id_sets.tsv. The ids of each set are written in each way
-   that there is, which has to give its bytes, and these are opened and read in each way. The sets of each row of the third table are compared,
-   and combined as views, with an array and by a query. Each call refuses what it has to, and writes nothing then. Prints what is wrong, and last how
-   many sets, refusals and pairs it read. */
+/* Reads the tables vectors/id_sets.tsv, vectors/refused_id_sets.tsv and vectors/combined_id_sets.tsv. The ids of each set are written in
+   each way that there is, which has to give its bytes, and these are opened and read in each way. The sets of each row of the third table are
+   compared, and combined as views and with an array. Each call refuses what it has to, and writes nothing then; rust/src/tests/set_query.rs
+   and the package of Python test what queries find. Prints what is wrong, and last how many sets, refusals and pairs it read. */
 #include "bitpacking.h"
 
 enum { MOST = 270232, ROOM = BITPACKING_SET_ROOM(MOST + 1), SOME = 65, OPERANDS = 64 };
@@ -204,39 +204,6 @@ static void compares(const bitpacking_set *one, const bitpacking_set *two)
     LEAVES(bitpacking_set_symmetric_difference(one, two, found, len), right, merged(values, count, others, others_len, 1, 0, 1), "ids of one alone");
 }
 
-/* A query of one operation has these ids, a part of them at a time. */
-static void asks(const bitpacking_set *views, uint32_t operation, size_t len, size_t part)
-{
-    const uint32_t steps[3] = {0, 1, operation};
-    uint64_t next = 0;
-    size_t at = 0, room;
-    ptrdiff_t len_found;
-
-    position = 77;
-    do {
-        room = part < len - at ? part : len - at;
-        len_found = bitpacking_set_query(views, 2, steps, 3, space, BITPACKING_QUERY_SPACE(2), &next, found, part, &position);
-        expect(len_found == (ptrdiff_t)room && memcmp(found, right + at, room * sizeof *found) == 0, "other ids of a query");
-        expect(next > (room > 0 ? right[at + room - 1] : 0) && (at + room == len || next <= right[at + room]), "another next id");
-        at += room;
-    } while (room > 0);
-    expect(position == 77, "a query writes a position");
-}
-
-static void queries(const bitpacking_set *views)
-{
-    const size_t parts[] = {7, 1000, 100000};
-    size_t i;
-
-    for (i = 0; i < sizeof parts / sizeof *parts; i++)
-        if (count + others_len < 2000 * parts[i]) {
-            asks(views, BITPACKING_AND, merged(values, count, others, others_len, 0, 1, 0), parts[i]);
-            asks(views, BITPACKING_OR, merged(values, count, others, others_len, 1, 1, 1), parts[i]);
-            asks(views, BITPACKING_AND_NOT, merged(values, count, others, others_len, 1, 0, 0), parts[i]);
-            asks(views, BITPACKING_XOR, merged(values, count, others, others_len, 1, 0, 1), parts[i]);
-        }
-}
-
 /* A query of one set is refused, and writes nothing but the position. */
 static void refuses(const uint32_t *steps, size_t steps_len, size_t room, ptrdiff_t number, size_t at, const char *what)
 {
@@ -291,7 +258,6 @@ static void pairs(void)
     are(swapped, 3, 0, others, others_len, values, count);
     LEAVES(bitpacking_set_intersect(views, 1, found, len), values, count, "other ids of one set");
     LEAVES(bitpacking_set_subtract(views, 1, found, len), values, count, "other ids of one set without others");
-    queries(views);
     compares(&views[0], &views[1]);
     compares(&views[1], &views[0]);
     in_place(&views[1], others, others_len, values, count);

@@ -16,8 +16,7 @@ rustup. Or they are unpacked in a folder that BITPACKING_RUSTC_WEB names, and no
     apt-get download rustc-web cargo-web libstd-rust-web-dev libstd-rust-web-1.96 rust-web-src libllvm22
     for it in *.deb; do dpkg -x "$it" FOLDER; done
 
-wasi-libc may be unpacked there too. A library takes about two minutes of a processor, and is built once, in out/machines/. The last line is
-'N passed, M failed', of machines.
+wasi-libc may be unpacked there too. A library takes about two minutes of a processor, and is built once, in out/machines/.
 """
 import concurrent.futures
 import glob

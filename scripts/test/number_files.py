@@ -1,10 +1,8 @@
 #!/usr/bin/env python3
 """Runs each command of the page of examples/numbers/, which install the program with warnings as errors, and compares what they print with the
 page. Then it compares each verb with sets and sorted lists of Python, and the bytes that it writes with the models of docs/FORMAT.md. Then calls
-that fail, and files that are replaced or not. A script `numbers.py` would hide the module of this name from the library of Python. The last line is
-'N passed, M failed'.
+that fail, and files that are replaced or not. A script `numbers.py` would hide the module of this name from the library of Python.
 """
-import bisect
 import functools
 import operator
 import os
@@ -19,7 +17,7 @@ import sys
 import tempfile
 
 sys.path.insert(1, f"{sys.path[0]}/..")
-from common import ROOT, left_out_without, report, run, source
+from common import ROOT, reported, run, source
 from files import bytes_of, other, written
 import vectors
 
@@ -45,21 +43,16 @@ SAMPLES = {
     "many and close": sorted(CHANCE.sample(range(200_000), 40_000)),
 }
 # Wrong calls, and what is said before the usage.
-WRONG_CALLS = """
-unpack --as set               unknown option --as
-show --output out set         unknown option --output
-pack --as column              KIND is set, sorted or plain
-and set set --output          --output requires FILE
-seek set 1 2                  unexpected operand '2'
-check                         an operand is missing
-xor                           an operand is missing
-between set 2 1               LOW is 2, above HIGH 1
-get set 0 1.5                 '1.5' is not a number from 0 to 4294967295
-seek set ''                   '' is not a number from 0 to 4294967295
-between set 0 4294967296      '4294967296' is not a number from 0 to 4294967295
--h                            unknown option -h
-                              there is no verb
-"""
+WRONG_CALLS = {
+    "unpack --as set": "unknown option --as",
+    "pack --as column": "KIND is set, sorted or plain",
+    "and set set --output": "--output requires FILE",
+    "seek set 1 2": "unexpected operand '2'",
+    "check": "an operand is missing",
+    "between set 2 1": "LOW is 2, above HIGH 1",
+    "between set 0 4294967296": "'4294967296' is not a number from 0 to 4294967295",
+    "": "there is no verb",
+}
 MISSING, NO_REGULAR = "No such file or directory (os error 2)", "it is not a regular file, and is not replaced"
 # The set of 1 and 3 without its last byte, and with a byte more, and bytes of neither kind: the faults by docs/FORMAT.md.
 CUT, MORE = "cut: fault 1: bytes are missing", "more: fault 11: bytes are left over after the last id"
@@ -77,13 +70,8 @@ FAILING = {
     "pack --binary fall": "fall: the last number has 2 bytes of 4",
 }
 # Wrong numbers, with their line and what is said of them.
-WRONG_NUMBERS = [
-    (b"\xC3\xA9", 1, "\\xc3\\xa9"),
-    (b"7\n+8\n", 2, "+8"),
-    (b"1\r\n42949672950\r\n", 2, "42949672950"),
-    (b"7\n" + b"0" * 2**17, 2, "0" * 20 + ".."),
-    (b"7\n" * 10**5 + b"7x\n7", 10**5 + 1, "7x"),
-]
+WRONG_NUMBERS = [(b"\xC3\xA9", 1, "\\xc3\\xa9"), (b"7\n+8\n", 2, "+8"), (b"1\r\n42949672950\r\n", 2, "42949672950")]
+WRONG_NUMBERS += [(b"7\n" + b"0" * 2**17, 2, "0" * 20 + ".."), (b"7\n" * 10**5 + b"7x\n7", 10**5 + 1, "7x")]
 
 
 def text_of(values):
@@ -101,18 +89,6 @@ def packed(kind, values):
 def description(kind, encoding, values):
     limits = f", {8 * len(encoding) / len(values):.2f} bits a number, from {min(values)} to {max(values)}" if values else ""
     return f"{KINDS[kind][0]}, {len(values)} numbers in {len(encoding)} bytes{limits}"
-
-
-def asked(kind, values):
-    """Questions about numbers: words before and after the file, and what is printed."""
-    chance = random.Random(len(values))
-    positions = [0, len(values) - 1, *(chance.randrange(len(values)) for _ in range(3))] if values else []
-    yield from ((["get", *some], [values[position] for position in some]) for some in (positions[:1], positions) if some)
-    for target in [0, 2**32 - 1, *(min(max(chance.choice(values or [7]) + step, 0), 2**32 - 1) for step in (-1, 0, 1))]:
-        at, high = bisect.bisect_left(values, target), min(target + chance.choice([0, 3, 1000, 10**8]), 2**32 - 1)
-        if kind != "plain":
-            yield ["seek", target], [f"{at} {values[at]}"] if at < len(values) else []
-        yield ["between", target, high], [value if kind == "set" else p for p, value in enumerate(values) if target <= value <= high]
 
 
 class Program:
@@ -155,7 +131,8 @@ def of_page(program):
 
 
 def packing(program):
-    """Each sample is packed as each kind that it can be, from text and from bytes, unpacked to both, described, and asked."""
+    """Each sample is packed as each kind that it can be, from text and from bytes, unpacked to both, and described. What finds nothing has
+    status 1."""
     for what, values in SAMPLES.items():
         kinds = [kind for kind, (_, order) in KINDS.items() if all(map(order, values, values[1:]))]
         yield f"the kind of {what}", program.differs((0, packed(kinds[0], values)), "pack", given=text_of(values))
@@ -167,9 +144,8 @@ def packing(program):
             line = f"standard input: {description(kind, content, values)}\n".encode()
             for verb in ["show"], ["check", "-"]:
                 yield f"{verb} of {name}", program.differs((0, line), *verb, given=content)
-            program.write(asked=content)
-            for (verb, *words), answer in asked(kind, values):
-                yield f"{verb} {words} of {name}", program.differs((0 if answer else 1, text_of(answer)), verb, "asked", *words)
+    program.write(few=packed("set", [7, 9]))
+    yield from ((call, program.differs((1, b""), *call.split())) for call in ("seek few 10", "between few 0 6"))
 
 
 def texts(program):
@@ -177,17 +153,12 @@ def texts(program):
     # The set of four ids that docs/FORMAT.md has.
     ids = bytes.fromhex("84 07 09 01008404")
     yield "text with zeros", program.differs((0, ids), "pack", given=b"007\r\n" + b"0" * 60_000 + b"9\t10  300\n")
-    yield "text in two pieces", program.differs((0, ids), "pack", given=b"\n" * (2**16 - 1) + b"7\f9\n10 300")
     yield "a number in two pieces", program.differs((0, ids), "pack", given=b"7 9" + b" " * (2**16 - 4) + b"10 300")
     # A column of docs/FORMAT.md.
     program.write(**{"-odd": b"5 5 9"})
-    yield "a file that begins as an option", program.differs(
-        (0, bytes.fromhex("63 05 03 20")), "pack", "--as", "set", "--as", "sorted", "--", "-odd"
-    )
-    version = re.search(r'^version = "(.*)"$', source(f"{FOLDER}/Cargo.toml"), re.M)[1]
-    shown = ["\n".join(it.split("\n")[:2]) if it.startswith("numbers ") else it for it in HELP.split("\n\n")]
-    said = {"--help": "\n\n".join(shown), "--version": f"numbers {version}\n"} | {f"{it} set --help": f"{HELPS[it]}\n" for it in HELPS}
-    yield from ((call, program.differs((0, text.encode()), *call.split())) for call, text in said.items())
+    column = bytes.fromhex("63 05 03 20")
+    yield "a file that begins as an option", program.differs((0, column), *"pack --as set --as sorted -- -odd".split())
+    yield from ((f"{it} set --help", program.differs((0, f"{text}\n".encode()), it, "set", "--help")) for it, text in HELPS.items())
 
 
 def combining(program):
@@ -210,18 +181,15 @@ def combining(program):
 
 def failing(program):
     """Calls that fail, wrong numbers, and standard output that is full, or has no reader any more."""
-    for call, what in [re.fullmatch("(.{30})(.*)", line).groups() for line in WRONG_CALLS[1:-1].split("\n")]:
-        verb, *words = shlex.split(call) or [""]
-        usage = f"the usage is {HELPS[verb].splitlines()[0]}" if verb in HELPS else "see numbers --help"
-        yield f"the call {call}", program.fails(f"{what}: {usage}", *([verb] if call.strip() else []), *words)
+    for call, what in WRONG_CALLS.items():
+        usage = f"the usage is {HELPS[call.split()[0]].splitlines()[0]}" if call else "see numbers --help"
+        yield f"the call {call}", program.fails(f"{what}: {usage}", *call.split())
     for given, line, word in WRONG_NUMBERS:
         text = f"standard input: line {line}: '{word}' is not a number from 0 to 4294967295"
         yield f"the numbers {given[-20:]}", program.fails(text, "pack", given=given)
     content = bytes.fromhex("82010101")
-    program.write(
-        set=content, cut=content[:-1], more=content + b"0", **{"7": b"\7"}, column=packed("sorted", [1, 3]), plain=packed("plain", [3, 1])
-    )
-    program.write(long=b"", fall=b"9 5 5\n")
+    program.write(set=content, cut=content[:-1], more=content + b"0", **{"7": b"\7"}, long=b"", fall=b"9 5 5\n")
+    program.write(column=packed("sorted", [1, 3]), plain=packed("plain", [3, 1]))
     os.truncate(f"{program.folder}/long", 4 * (2**28 + 1))
     yield from ((call, program.fails(text, *call.split())) for call, text in FAILING.items())
     line = f"set: {description('set', content, [1, 3])}\n"
@@ -238,11 +206,6 @@ def failing(program):
     os.close(theirs)
 
 
-def limited():
-    """Before a program begins: it can write files of 1000 bytes."""
-    resource.setrlimit(resource.RLIMIT_FSIZE, (1000, 1000))
-
-
 def state(folder):
     """What the names of a folder are: modes, and what files have."""
     modes = {entry.name: entry.stat(follow_symlinks=False).st_mode for entry in os.scandir(folder)}
@@ -251,9 +214,10 @@ def state(folder):
 
 def output_cases():
     """Calls, the name of the file that they write, its bytes or why they fail, and how they run."""
-    content, many, full = packed("set", [7, 9, 10, 300]), text_of(SAMPLES["many"]), {"preexec_fn": limited, "restore_signals": False}
+    content, many = packed("set", [7, 9, 10, 300]), text_of(SAMPLES["many"])
+    full = {"preexec_fn": lambda: resource.setrlimit(resource.RLIMIT_FSIZE, (1000, 1000)), "restore_signals": False}
     yield "pack --output new", "new", content, {}
-    yield "pack --output new --output old", "old", content, {}
+    yield "pack --output old", "old", content, {}
     yield "pack --output -", "-", content, {}
     yield "pack --binary own --output own", "own", bytes.fromhex("42 01 02 02"), {}
     yield "unpack ../many --output old", "old", many, {}
@@ -263,7 +227,6 @@ def output_cases():
     yield "pack --output ''", "", MISSING, {}
     yield "pack --output old/new", "old/new", "Not a directory (os error 20)", {}
     yield "pack --binary old --output old", "old", "the last number has 2 bytes of 4", {}
-    yield "unpack ../many --output old", "old", "File too large (os error 27)", full
     yield "pack --as plain ../text --output old", "old", "File too large (os error 27)", full
 
 
@@ -297,9 +260,5 @@ def checks():
                 yield from part(program)
 
 
-def main():
-    return 0 if left_out_without("the command for files of numbers", "cargo", "cc") else report(checks())
-
-
 if __name__ == "__main__":
-    sys.exit(main())
+    sys.exit(reported("the command for files of numbers", checks, "cargo", "cc"))

@@ -1,8 +1,10 @@
 #!/usr/bin/env python3
 """Tests scripts/build/install.py with a folder of its own for PREFIX, and scripts/build/bundle.py with programs in C and Rust outside the
-repository, and with the Python package, that are built from the unpacked bundle. Programs find the library by pkg-config and by CMake. One of the
-programs gets `bitpacking` through another crate, as in scripts/test/rust.py. Nothing is fetched: the folder of cargo is empty. The last line is
-'N passed, M failed'; a part that is left out for want of a tool is named.
+repository, and with the Python package, that are built from the unpacked bundle. Programs find the library by pkg-config and by CMake. One
+of the programs gets `bitpacking` through another crate, as in scripts/test/rust.py. Nothing is fetched: the folder of cargo is empty.
+
+`packaged.py --cargo` tests the library that cargo compiles, as `install.py PREFIX --from cargo` installs it, and no bundle. It needs
+neither `rt` nor archives of proved code.
 """
 import contextlib
 import ctypes
@@ -16,12 +18,13 @@ import tarfile
 import tempfile
 
 sys.path.insert(1, f"{sys.path[0]}/..")
-from common import ROOT, leave_out, missing, report, run, source, version
+from common import ROOT, leave_out, missing, reported, run, source, version, words
 import archives
 import bundle
+import by_cargo
 import c
 import choosing
-from files import bytes_of, failed, other, written
+from files import bytes_of, failed, other, printed, written
 import install
 import python
 import release
@@ -31,6 +34,10 @@ EXAMPLES = [it for it in c.PROGRAMS if it.startswith("examples/")]
 PROCESSOR = "x86_64"
 # The function that the header has only as `static inline`, and that has a symbol for other languages.
 INLINE = ["bitpacking_error_text"]
+# What an archive by cargo needs of C: functions of <string.h>, which compilers call by themselves, and what ends a program.
+NEEDS = {"memcpy", "memmove", "memset", "memcmp", "bcmp", "abort"}
+# The linker leaves out what is not called, by this flag of docs/C.md: the most bytes of a small program then.
+LEAVES_OUT, SMALL = "-Wl,--gc-sections", 200_000
 # A program of CMake, over the shared library and the static one.
 BY_CMAKE = """cmake_minimum_required(VERSION 3.10)
 project(it C)
@@ -55,12 +62,6 @@ def by_script(*words, top=ROOT, **more):
     return run(sys.executable, f"{top}/scripts/build/install.py", *words, **more)
 
 
-def built_and_run(command, program, **more):
-    """What is wrong with a C program that a command builds, or None. It prints what c.PROGRAMS says. More is for running it."""
-    with tempfile.TemporaryDirectory(prefix="packaged-") as folder:
-        return failed(run(*command, "-o", f"{folder}/program")) or c.printed(run(f"{folder}/program", **more), c.PROGRAMS[program])
-
-
 def by_cmake(prefix, compiler):
     """Programs that CMake builds over an installation: each check as a name and what is wrong, or None."""
     if missing("cmake", "make"):
@@ -76,10 +77,10 @@ def by_cmake(prefix, compiler):
             if wanted == version():
                 built = failed(run("cmake", "--build", f"{folder}/out"))
                 for name in ["with_bitpacking", "with_bitpacking_static"]:
-                    yield f"{program} {name} by CMake", built or c.printed(run(f"{folder}/out/{name}"), c.PROGRAMS[program])
+                    yield f"{program} {name} by CMake", built or printed(run(f"{folder}/out/{name}"), c.PROGRAMS[program])
 
 
-def by_pkg_config(prefix, compiler, programs=()):
+def by_pkg_config(prefix, compiler):
     """What pkg-config tells of an installation, and programs that ask it: each check as a name and what is wrong, or None."""
     if missing("pkg-config"):
         leave_out("programs that ask pkg-config", "since there is no pkg-config")
@@ -88,20 +89,19 @@ def by_pkg_config(prefix, compiler, programs=()):
     for asked, wanted in {"--modversion": version(), "--variable=compiler": compiler}.items():
         yield f"pkg-config {asked}", other(run("pkg-config", asked, "bitpacking", env=env).stdout, f"{wanted}\n")
     words = run("pkg-config", "--cflags", "--libs", "bitpacking", env=env).stdout.split()
-    for program in programs:
-        why = built_and_run(["cc", "-std=c99", f"{ROOT}/{program}", *words], program, env=dict(os.environ, LD_LIBRARY_PATH=f"{prefix}/lib"))
-        yield f"{program} by pkg-config", why
+    shared = dict(os.environ, LD_LIBRARY_PATH=f"{prefix}/lib")
+    yield from ((f"{it} by pkg-config", c.compiled_and_run(it, ["cc", "-std=c99"], *words, env=shared)) for it in c.PROGRAMS)
 
 
-def refused(prefix, **more):
+def refused(prefix, *words, **more):
     """What is wrong if an installation fails otherwise than with status 1 and all files as they were, or None."""
-    before, done = listed(prefix), by_script(prefix, **more)
+    before, done = listed(prefix), by_script(prefix, *words, **more)
     return other(done.returncode, 1) or (None if listed(prefix) == before else f"it changed files, and printed {done.stdout}")
 
 
-def elsewhere(asked, prefix, at, **more):
+def elsewhere(asked, prefix, at, *words, **more):
     """What is wrong if an installation that asks for a PREFIX does not write all at a folder, name the PREFIX there, and remove it again, or None."""
-    done = by_script(asked, **more)
+    done = by_script(asked, *words, **more)
     if done.returncode or not os.path.isfile(f"{at}/{install.STATIC}") or at != prefix and os.path.exists(prefix):
         return f"it wrote elsewhere: {done.stdout}"
     if f"prefix={prefix}\n" not in bytes_of(f"{at}/{install.ASKED}").decode():
@@ -136,44 +136,44 @@ def shared_library(path):
     yield "a function that the header has inline, by its name", None if text == b"The buffer is too short." else f"it returned {text}"
 
 
-def installed(folder):
-    """Each check of an installation as a name and what is wrong, or None."""
-    prefix, static = f"{folder}/prefix", install.STATIC
+def library_by_cargo(prefix):
+    """Checks of the library that cargo compiled, each as a name and what is wrong, or None."""
+    static = f"{prefix}/{install.STATIC}"
+    # The archive has one number of data, the level.
+    yield "the archive", "; ".join(archives.faults(static, data=4, needs=NEEDS)) or None
+    yield "the folders that the libraries name", ", ".join(release.named_folders(prefix)) or None
+    yield "the flag that leaves out", None if LEAVES_OUT in source("docs/C.md") else "docs/C.md does not name it"
+    built = failed(run(*c.C99, "-O2", "-s", f"{ROOT}/examples/block.c", static, LEAVES_OUT, "-o", f"{prefix}.small"))
+    yield "the size of a small program", built or (None if os.path.getsize(f"{prefix}.small") < SMALL else "it is too great")
+    for words, status in (["--from", "nowhere"], 2), (["--from", "cargo", "--level", archives.ARM], 1):
+        done = by_script(f"{prefix}.other", *words)
+        yield f"install.py {' '.join(words)}", other((done.returncode, os.path.exists(f"{prefix}.other")), (status, False))
+
+
+def installed(folder, *words):
+    """Each check of an installation as a name and what is wrong, or None. The words ask for the library by cargo, or there are none."""
+    prefix, static, (compiler, by) = f"{folder}/prefix", install.STATIC, ("rustc", f", {install.BY_RUSTC},") if words else ("rattle", "")
     # A file where a folder is wanted.
     written(prefix, {"lib/other": "of another program\n", "share": "no folder\n"})
-    yield "an installation that fails half-way", refused(prefix)
+    yield "an installation that fails half-way", refused(prefix, *words)
     os.remove(f"{prefix}/share")
-    before, done = listed(prefix), by_script(prefix)
-    said = f"installed version {version()} under {prefix}: {install.HEADER} {static} "
+    before, done = listed(prefix), by_script(prefix, *words)
+    said = f"installed version {version()}{by} under {prefix}: {install.HEADER} {static} "
     yield "install.py", failed(done) or (None if done.stdout.startswith(said) else done.stdout)
     yield from shared_library(f"{prefix}/{install.LINK}")
-    yield from by_pkg_config(prefix, "rattle", EXAMPLES)
-    for program in EXAMPLES:
-        command = ["cc", "-std=c99", f"-I{prefix}/include", f"{ROOT}/{program}", f"{prefix}/{static}"]
-        yield f"{program} over the installed archive", built_and_run(command, program)
-    yield "an installation over it without a linker", refused(prefix, env=dict(os.environ, CC="false"))
-    yield from by_cmake(prefix, "rattle")
-    yield from levels_of(prefix)
+    yield from by_pkg_config(prefix, compiler)
+    to_archive = ["cc", "-std=c99", "-static", f"-I{prefix}/include"], f"{prefix}/{static}"
+    yield from ((f"{it} over the installed archive", c.compiled_and_run(it, *to_archive)) for it in c.PROGRAMS)
+    yield "an installation over it without a linker", refused(prefix, *words, env=dict(os.environ, CC="false"))
+    yield from by_cmake(prefix, compiler)
+    yield from library_by_cargo(prefix) if words else levels_of(prefix)
     yield "install.py --remove", failed(by_script(prefix, "--remove")) or (None if listed(prefix) == before else "it left other files")
     package, later, near = f"{folder}/package", f"{folder}/later", f"{os.path.realpath(folder)}/near/prefix"
-    yield "install.py with DESTDIR", elsewhere(later, later, f"{package}{later}", env=dict(os.environ, DESTDIR=package))
-    yield "install.py with a relative name", elsewhere("near/prefix", near, near, folder=folder)
+    yield "install.py with DESTDIR", elsewhere(later, later, f"{package}{later}", *words, env=dict(os.environ, DESTDIR=package))
+    yield "install.py with a relative name", elsewhere("near/prefix", near, near, *words, folder=folder)
     yield "removing nothing", other(by_script(prefix, "--remove").returncode, 1)
     written(prefix, {static: "of another program\n"})
-    yield "the file of another program", refused(prefix)
-
-
-def are_same(folder):
-    """Whether two bundles of this processor have the same bytes. Between them a file gets another time. The second is in a folder `again`."""
-    touched, before = f"{ROOT}/LICENSE", os.stat(f"{ROOT}/LICENSE")
-    os.makedirs(f"{folder}/again")
-    one = bundle.write(folder, PROCESSOR)
-    os.utime(touched, (0, 0))
-    try:
-        two = bundle.write(f"{folder}/again", PROCESSOR)
-    finally:
-        os.utime(touched, ns=(before.st_atime_ns, before.st_mtime_ns))
-    return bytes_of(one) == bytes_of(two)
+    yield "the file of another program", refused(prefix, *words)
 
 
 def of_a_commit(folder):
@@ -184,21 +184,15 @@ def of_a_commit(folder):
     git = ["git", "-c", "user.name=it", "-c", "user.email=it", "-c", "commit.gpgsign=false"]
     for words in ["init", "-q"], ["add", "--all"], ["commit", "-q", "-m", "it"]:
         subprocess.run([*git, *words], cwd=folder, check=True)
-    asked = (
-        "import sys; sys.path[:0] = ['scripts', 'scripts/build']; import common, bundle; print(bundle.changed(), bundle.paths('x86_64'))"
-    )
-
-    def said():
-        return run(sys.executable, "-B", "-c", asked, folder=folder).stdout
-
+    asked = "import sys; sys.path[:0] = ['scripts', 'scripts/build']; import bundle as it; print(it.changed(), it.paths('x86_64'))"
+    said = lambda: run(sys.executable, "-B", "-c", asked, folder=folder).stdout
     has = sorted([*ours, *(it for it in bundle.paths("x86_64") if it.startswith("scripts/"))])
     yield "the files of a commit", other(said(), f"[] {has}\n")
     written(folder, {"examples/left.c": "", "postgres/idset--0.9.sql": ""})
     yield "files that git does not track", other(said(), f"['?? examples/left.c', '?? postgres/idset--0.9.sql'] {has}\n")
-    for script, words in {"bundle.py": [folder], "release.py": []}.items():
-        done = run(sys.executable, "-B", f"{folder}/scripts/build/{script}", *words, folder=folder)
-        right = done.returncode == 1 and "this is not in the last commit: ?? examples/left.c" in done.stdout
-        yield f"{script} with files that git does not track", None if right else done.stdout
+    done = run(sys.executable, "-B", f"{folder}/scripts/build/release.py", folder=folder)
+    right = done.returncode == 1 and "this is not in the last commit: ?? examples/left.c" in done.stdout
+    yield "a release with files that git does not track", None if right else done.stdout
 
 
 def releases(folder):
@@ -223,7 +217,9 @@ def dead_links(top):
 
 def unpacked(folder):
     """Each check of a bundle as a name and what is wrong, or None."""
-    yield "two bundles, of files of other times", None if are_same(folder) else "they differ"
+    os.makedirs(f"{folder}/again")
+    one, two = (bytes_of(bundle.write(it, PROCESSOR)) for it in (folder, f"{folder}/again"))
+    yield "two bundles", None if one == two else "they differ"
     with tarfile.open(f"{folder}/{bundle.name_of(PROCESSOR)}.tar.gz") as file:
         file.extractall(folder)
     top = f"{folder}/{bundle.name_of(PROCESSOR)}"
@@ -233,8 +229,8 @@ def unpacked(folder):
     yield "the links of the bundle's pages", ", ".join(dead_links(top)) or None
     yield "an installation from the bundle", failed(by_script(f"{folder}/installed", top=top))
     for program in EXAMPLES:
-        command = ["cc", "-std=c99", f"-I{top}/include", f"{top}/{program}", f"{top}/rust/out/{archives.ALL}"]
-        yield f"{program} from the bundle", built_and_run(command, program)
+        compiler = ["cc", "-std=c99", f"-I{top}/include"]
+        yield f"{program} from the bundle", c.compiled_and_run(program, compiler, f"{top}/rust/out/{archives.ALL}", top=top)
     interpreter, lack = python.chosen()
     if lack:
         leave_out("the Python package from the bundle", f"since there is no {' and no '.join(lack)}")
@@ -254,15 +250,16 @@ def unpacked(folder):
     yield "a crate that asks for 0.9 of crates.io", rust.through_another(f"{folder}/through", top)
 
 
-def checks():
-    for part in [installed, unpacked, of_a_commit, releases]:
+def checks(parts, *words):
+    for part in parts:
         with tempfile.TemporaryDirectory(prefix="packaged-") as folder:
-            yield from part(folder)
+            yield from part(folder, *words)
 
 
 def main():
-    status = archives.status_without("the installation and the bundle")
-    return report(checks()) if status is None else status
+    if "--cargo" in words("--cargo"):
+        return reported("the library for C by cargo", lambda: checks([installed], "--from", "cargo"), *by_cargo.TOOLS, "objdump")
+    return archives.reported("the installation and the bundle", lambda: checks([installed, unpacked, of_a_commit, releases]))
 
 
 if __name__ == "__main__":

@@ -32,22 +32,19 @@ ROWS = """CREATE TABLE plain AS SELECT DISTINCT word, id FROM (VALUES ('bee', 7)
     LATERAL (SELECT i::int8 * i * k * 31 % 10000000000 AS id FROM generate_series(1, 20000) i UNION ALL
              SELECT i::int8 * 4000000 FROM generate_series(1, 2499) i WHERE i % k = 0) q;
 INSERT INTO postings SELECT word, id / 1000000000 * 1000000000, pack_agg(id % 1000000000) FROM plain GROUP BY 1, 2;"""
-QUERY = "SELECT first + id FROM postings a JOIN postings b USING (first), unnest(a.ids {} b.ids) id WHERE a.word = 'bee' AND b.word = 'hive' ORDER BY 1"
+BOTH = "a.word = 'bee' AND b.word = 'hive'"
+QUERY = f"SELECT first + id FROM postings a JOIN postings b USING (first), unnest(a.ids {{}} b.ids) id WHERE {BOTH} ORDER BY 1"
 BY_ROWS = "SELECT id FROM plain WHERE word = 'bee' {} SELECT id FROM plain WHERE word = 'hive' ORDER BY 1"
 # The same AND, so that each server sends one set for each of its ranges.
 WISE = "SET enable_partitionwise_join = on; SET enable_partitionwise_aggregate = on;"
-BY_RANGE = (
-    "SELECT first, unite_agg(a.ids & b.ids) AS ids FROM postings a JOIN postings b USING (first)"
-    " WHERE a.word = 'bee' AND b.word = 'hive' GROUP BY first"
-)
+BY_RANGE = f"SELECT first, unite_agg(a.ids & b.ids) AS ids FROM postings a JOIN postings b USING (first) WHERE {BOTH} GROUP BY first"
 SIGNS = {"&": "INTERSECT", "|": "UNION", "-": "EXCEPT"}
 
 
 def dumped(extension, server):
     """A table that is dumped and restored, the next version of the extension, and binary copies."""
-    server.rows(
-        "CREATE TABLE kept AS SELECT n, idset(ARRAY(SELECT i * n * 37 FROM generate_series(1, n * 50) i)) AS ids FROM generate_series(0, 99) n"
-    )
+    ids = "idset(ARRAY(SELECT i * n * 37 FROM generate_series(1, n * 50) i)) AS ids"
+    server.rows(f"CREATE TABLE kept AS SELECT n, {ids} FROM generate_series(0, 99) n")
     digest = "SELECT md5(string_agg(n || ids::text, ' ' ORDER BY n)) FROM "
     before = server.rows(digest + "kept")
     dump = run(extension.programs.path("pg_dump"), "-t", "kept", "-e", "idset", env=server.known).stdout
@@ -86,10 +83,9 @@ def on_disk(extension, number, checksums):
     set may be another one, if its bytes have one."""
     server = extension.server(number, checksums=checksums).start()
     name = f"bits flipped on disk, {'with' if checksums else 'without'} data checksums"
-    server.rows(
-        f"CREATE EXTENSION idset; {ANSWERS} CREATE TABLE stored AS SELECT n, idset(ARRAY("
-        f"SELECT i::int8 * i * (n * 7919 + 101) % 4294967291 FROM generate_series(1, 3000) i)) AS ids FROM generate_series(1, {STORED}) n; CHECKPOINT"
-    )
+    ids = "idset(ARRAY(SELECT i::int8 * i * (n * 7919 + 101) % 4294967291 FROM generate_series(1, 3000) i)) AS ids"
+    server.rows(f"CREATE EXTENSION idset; {ANSWERS}")
+    server.rows(f"CREATE TABLE stored AS SELECT n, {ids} FROM generate_series(1, {STORED}) n; CHECKPOINT")
     before = server.rows("SELECT n, said FROM answers() ORDER BY n").split("\n")
     path = server.rows("SELECT pg_relation_filepath(reltoastrelid) FROM pg_class WHERE relname = 'stored'")
     sets = [bytes.fromhex(it) for it in server.rows("SELECT encode(ids::bytea, 'hex') FROM stored ORDER BY n").split("\n")]

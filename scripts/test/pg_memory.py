@@ -70,9 +70,8 @@ def kept_constant(server):
     answer, used, _ = session(server, f"SELECT count(*) FROM generate_series(1, 5000) i WHERE {wide} contains('{constant}', i)")
     yield "a constant outlives the row", None if answer == "625" and used < 60 else f"{answer}, {used:.0f} MB"
     for call in ("contains('{}', i)", "'{}' @> idset(ARRAY[i])", "idset(ARRAY[i]) && '{}'"):
-        short, long = (
-            seconds(server, f"SELECT count(*) FROM generate_series(1, 20000) i WHERE {call.format(it)}") for it in ("{16,40}", constant)
-        )
+        sql = f"SELECT count(*) FROM generate_series(1, 20000) i WHERE {call}"
+        short, long = (seconds(server, sql.format(it)) for it in ("{16,40}", constant))
         yield f"a constant is opened once: {call}", None if long < 3 * short + 0.3 else f"{short:.2f} and {long:.2f} s"
 
 

@@ -14,12 +14,9 @@ import bundle
 from files import bytes_of, failed, written
 
 PG_CONFIG = os.environ.get("PG_CONFIG") or "/usr/lib/postgresql/15/bin/pg_config"
-# What `lacking` looks for, by the package of Debian that has it.
-PACKAGES = {
-    "postgresql-15": "bindir:postgres bindir:pgbench pkglibdir:postgres_fdw.so",
-    "postgresql-client-15": "bindir:psql",
-    "postgresql-server-dev-15": "pgxs: includedir-server:postgres.h",
-}
+# The packages of Debian that have a server with extensions, and what they bring.
+PACKAGES = "postgresql-15 postgresql-client-15 postgresql-server-dev-15"
+NEEDED = ["bindir:postgres", "bindir:pgbench", "bindir:psql", "pkglibdir:postgres_fdw.so", "pgxs:", "includedir-server:postgres.h"]
 SETTINGS = {"listen_addresses": "", "jit": "off", "max_connections": "120", "shared_buffers": "64MB", "fsync": "off", "autovacuum": "off"}
 PATIENCE = 240
 
@@ -31,14 +28,10 @@ def config(name):
 
 def lacking():
     """What is missing for a server with extensions, with the packages of Debian that have it."""
-    if not os.path.exists(PG_CONFIG):
-        return ["PostgreSQL 15 (Debian: apt install postgresql-15 postgresql-server-dev-15)"]
-    paths = {
-        f"{config(name)}/{file}".rstrip("/"): package
-        for package, its in PACKAGES.items()
-        for name, file in (it.split(":") for it in its.split())
-    }
-    return [f"{path} (Debian: apt install {package})" for path, package in paths.items() if not os.path.exists(path)]
+    paths = [PG_CONFIG]
+    if os.path.exists(PG_CONFIG):
+        paths = [f"{config(name)}/{file}".rstrip("/") for name, file in (it.split(":") for it in NEEDED)]
+    return [f"{path} (Debian: apt install {PACKAGES})" for path in paths if not os.path.exists(path)]
 
 
 def account():

@@ -4,13 +4,9 @@ starts servers as a user that is not root, which listen on sockets alone, and
 
 - runs postgres/sql/ by `make installcheck`, with data checksums, without, and with the address sanitizer;
 - reads the tables of vectors/, makes the longest values, and runs the examples of the page;
-- dumps and restores a table, updates the extension to a made-up next version, and reads binary copies, sound and damaged;
-- flips bits in the files of a stopped server, with data checksums and without;
-- asks two servers, which have the partitions of one table, and stops one of them;
-- measures the memory and the processor's time of some statements.
+- runs the checks of pg_faults.py and pg_memory.py.
 
-It is left out without PostgreSQL 15 and its header files, and says how to install them. The archive is the one that scripts/build/archives.py
-wrote, which is called if it is not there. The last line is 'N passed, M failed'.
+It is left out without PostgreSQL 15 and its header files, and says how to install them.
 """
 import os
 import re
@@ -19,8 +15,7 @@ import sys
 import tempfile
 
 sys.path.insert(1, f"{sys.path[0]}/..")
-from common import ended, leave_out, report, run, source
-
+from common import leave_out, run, source
 import archives
 from files import bytes_of, other
 import install
@@ -30,7 +25,6 @@ import pg_server
 import rows
 from pg_server import Programs, Server
 
-PARTS = "the PostgreSQL extension"
 PAGE = "docs/POSTGRES.md"
 # Catches the error of a cast from bytea.
 SAID = """CREATE FUNCTION said(bytes bytea) RETURNS text LANGUAGE plpgsql AS
@@ -92,15 +86,6 @@ def library(extension):
     named = run("nm", "-D", "--defined-only", path).stdout.split()[2::3]
     others = [it for it in named if not re.match(r"(pg_finfo_)?idset_|Pg_magic_func$", it)]
     yield "the names of idset.so", f"it exports {others}" if others or not named else None
-    sizes = [os.path.getsize(it) for it in (path, f"{extension.prefix}/{install.STATIC}")]
-    yield "the size of idset.so", f"it has {sizes[0]} bytes, and the archive {sizes[1]}" if sizes[0] > sizes[1] else None
-
-
-def relative(extension):
-    """PREFIX may be relative to the folder of the shell."""
-    words = ["-B", "-n", "-C", "postgres", "BITPACKING=prefix", f"PG_CONFIG={pg_server.PG_CONFIG}", "src/text.o"]
-    said = run("make", *words, folder=extension.folder, env=dict(os.environ, PWD=extension.folder)).stdout
-    yield "a relative PREFIX", None if f"-I{extension.prefix}/include" in said else said[-500:]
 
 
 def fault_texts():
@@ -234,7 +219,6 @@ def checks():
         if failed:
             return
         yield from library(extension)
-        yield from relative(extension)
         first = extension.server()
         try:
             first.start()
@@ -257,14 +241,5 @@ def checks():
                 server.stop()
 
 
-def main():
-    lacking = pg_server.lacking()
-    if lacking:
-        leave_out(PARTS, f"since there is no {' and no '.join(lacking)}")
-        return ended(0, 0)
-    status = archives.status_without(PARTS, "cc", "make", "nm")
-    return report(checks()) if status is None else status
-
-
 if __name__ == "__main__":
-    sys.exit(main())
+    sys.exit(archives.reported("the PostgreSQL extension", checks, "cc", "make", "nm", others=pg_server.lacking()))

@@ -4,9 +4,7 @@ new virtual environment without an index, and runs there the tests of python/tes
 has to accept. Then it builds and installs the package in one step with the address sanitizer, and runs the tests once more. Last, some wrong changes
 of the package have to fail a test of each file.
 
-It takes the first Python, of the one that runs it and /usr/bin/python3, that has all it needs: 3.11 or later with its header files, numpy,
-hypothesis, pytest, setuptools, wheel, build and pip. Without one it is left out, and names what is missing. The archives are those that
-scripts/build/archives.py wrote, which is called if they are not there. The last line is 'N passed, M failed'.
+It takes the first Python, of the one that runs it and /usr/bin/python3, that is 3.11 or later with its header files, and has MODULES.
 """
 import concurrent.futures
 import doctest
@@ -14,20 +12,17 @@ import glob
 import os
 import re
 import shutil
-import subprocess
 import sys
 import tempfile
-import xml.etree.ElementTree as xml
 import zipfile
 
 sys.path.insert(1, f"{sys.path[0]}/..")
-from common import ROOT, ended, leave_out, missing, report, run, source, version
+from common import ROOT, leave_out, missing, run, source, version
 import archives
 import c
 from files import changed, failed, other, written
 import install
 
-PARTS = "the Python package"
 MODULES = ["numpy", "hypothesis", "pytest", "setuptools", "wheel", "build", "pip", "ensurepip"]
 PAGES = ["README.md", "docs/PYTHON.md", "python/README.md"]
 # Wrong changes: a test that has to fail, a file of the package, lines in it and other lines. A file of C is compiled again.
@@ -93,24 +88,16 @@ class Package:
         """What is wrong with a command, or None."""
         return failed(run(*command, folder=self.sources, env=self.environment | more))
 
-    def tested(self, kind, *words, python=None, **more):
-        """The tests that pytest runs, each as a name and what is wrong with it, or None."""
-        results = f"{tempfile.mkdtemp(dir=self.folder)}/results.xml"
-        command = [python or self.room + "/bin/python", "-m", "pytest", "-q", "-p", "no:cacheprovider", f"--junitxml={results}", *words]
-        try:
-            done = run(*command, folder=self.sources, env=self.environment | more, timeout=PATIENCE)
-        except subprocess.TimeoutExpired:
-            yield f"the tests {kind}", f"they did not end in {PATIENCE} seconds"
-            return
-        if not os.path.isfile(results):
-            yield f"the tests {kind}", done.stdout[-3000:]
-            return
-        cases = xml.parse(results).findall(".//testcase")
-        for case in cases:
-            wrong = [it.get("message", "it was skipped") for it in case if it.tag in ("failure", "error", "skipped")]
-            yield f"{case.get('classname')}.{case.get('name')} {kind}", wrong[0][:2000] if wrong else None
-        if not cases or done.returncode not in (0, 1):
-            yield f"the tests {kind}", f"pytest ended with status {done.returncode}: {done.stdout[-2000:]}"
+    def pytest(self, *words, **more):
+        """How a run of pytest ended. One that takes too long has status 124."""
+        command = [f"{self.room}/bin/python", "-m", "pytest", "-q", "-p", "no:cacheprovider", *words]
+        return run("timeout", str(PATIENCE), *command, folder=self.sources, env=self.environment | more)
+
+    def tested(self, kind, *words, **more):
+        """What is wrong with tests that pytest runs, as their name and why, or None. None of them may be skipped."""
+        done = self.pytest(*words, **more)
+        skipped = re.search(r"\b\d+ (?:skipped|xfailed)\b.*", done.stdout)
+        return f"the tests {kind}", failed(done) or (skipped and skipped[0])
 
 
 def wheel_of(package):
@@ -156,9 +143,8 @@ def sanitized(package):
     words = ["--no-build-isolation", "--no-index", "--no-deps", f"--target={to}", "."]
     # A relative name of the library begins in the folder of the shell.
     near = {"BITPACKING": os.path.relpath(package.prefix, package.folder), "PWD": package.folder}
-    yield "building and installing in one step", package.call(
-        f"{package.room}/bin/python", "-m", "pip", "install", *words, CFLAGS=flags, **near
-    )
+    install_it = [f"{package.room}/bin/python", "-m", "pip", "install", *words]
+    yield "building and installing in one step", package.call(*install_it, CFLAGS=flags, **near)
     library = run("cc", "-print-file-name=libasan.so").stdout.strip()
     known = {"PYTHONPATH": to, "LD_PRELOAD": library, "PYTHONMALLOC": "malloc"}
     known |= {"ASAN_OPTIONS": "detect_leaks=0:exitcode=99", "UBSAN_OPTIONS": "print_stacktrace=1"}
@@ -166,7 +152,7 @@ def sanitized(package):
     left_out = ["test_memory.py::test_constant", "test_threads.py::test_lock_is_released"]
     left_out += [f"test_column_calls.py::{it}" for it in ("test_constant", "test_lock_is_released")]
     without = [f"--deselect=tests/{it}" for it in left_out]
-    yield from package.tested("under the address sanitizer", "tests", *without, **known)
+    yield package.tested("under the address sanitizer", "tests", *without, **known)
 
 
 def compiled(python, prefix, sources, objects, to):
@@ -197,12 +183,10 @@ def wrong_change(package, test, name, before, after):
     why = changed(f"{folder}/core/{name}" if in_c else f"{folder}/fimulowen/{name}", before, after)
     if in_c and not why:
         why = compiled(package.python, package.prefix, f"{folder}/core", f"{folder}/core", f"{folder}/fimulowen/_core.abi3.so")
-    found = [] if why else list(package.tested("with a wrong change", "-x", f"tests/{test}", PYTHONPATH=folder))
+    status = None if why else package.pytest("-x", f"tests/{test}", PYTHONPATH=folder).returncode
     shutil.rmtree(folder)
-    # Python may crash. A test that is not there does not fail.
-    case = f".{test.partition('::')[2]}"
-    fails = any(wrong and (case in it or "Fatal Python error" in wrong) for it, wrong in found)
-    return f"a wrong change of {name}: {after}", why or (None if fails else f"{test} passes, or is not there")
+    # The test fails, or Python crashes. If the test is not there, cannot be run or takes too long, the status is another one.
+    return f"a wrong change of {name}: {after}", why or (None if status == 1 or not 0 <= status <= 128 else f"{test}: status {status}")
 
 
 def wrong_changes(package):
@@ -234,21 +218,13 @@ def checks(python):
         examples = ["--doctest-glob=*.md", *pages, "--doctest-modules", "--pyargs", "fimulowen"]
         with concurrent.futures.ThreadPoolExecutor(1) as pool:
             beside = pool.submit(lambda: [*sanitized(package)])
-            yield from package.tested("of the wheel", "tests")
-            yield from package.tested("in the pages", *examples)
+            yield package.tested("of the wheel", "tests")
+            yield package.tested("in the pages", *examples)
             yield from typed(package)
             yield from wrong_changes(package)
             yield from beside.result()
 
 
-def main():
-    python, lack = chosen()
-    if not python:
-        leave_out(PARTS, f"since there is no {' and no '.join(lack)}")
-        return ended(0, 0)
-    status = archives.status_without(PARTS, "cc", "nm")
-    return report(checks(python)) if status is None else status
-
-
 if __name__ == "__main__":
-    sys.exit(main())
+    interpreter, lack = chosen()
+    sys.exit(archives.reported("the Python package", lambda: checks(interpreter), "cc", "nm", others=lack))

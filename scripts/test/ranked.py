@@ -118,14 +118,6 @@ def fault(programs, name, asked):
     return None if found == wanted else f"{room} of {text} by {name}: {found}, and not {wanted}"
 
 
-def asked_of(programs, made):
-    """Each query with the programs of which it is asked."""
-    for number, one in enumerate(made):
-        for name in programs.paths:
-            if name != "sanitized" or number % ONE_OF == 0:
-                yield name, one
-
-
 def checks(programs):
     documents = corpus(random.Random(1))
     model = Model(documents)
@@ -133,6 +125,7 @@ def checks(programs):
     _, wrong = programs.index("--paragraphs", "ranked")
     yield "an index of paragraphs with ties", wrong
     made = queries(model)
+    asked = [(name, one) for number, one in enumerate(made) for name in programs.paths if name != "sanitized" or number % ONE_OF == 0]
     with concurrent.futures.ThreadPoolExecutor(2) as pool:
-        faults = [why for why in pool.map(lambda it: fault(programs, *it), asked_of(programs, made)) if why]
+        faults = [why for why in pool.map(lambda it: fault(programs, *it), asked) if why]
     yield f"the best documents of {len(made)} queries", f"{len(faults)} are wrong: {faults[0][:2000]}" if faults else None

@@ -1,19 +1,17 @@
-/* Asks for the best documents of words whose scores are worked by hand, and of words that are drawn, against a scan of all documents. Each error is
-   tested, with nothing else written. Prints what is wrong, and last how many queries it asked. */
+/* Asks for the best documents of words whose scores are worked by hand. Each error is tested, with nothing else written. Random words are
+   asked for in rust/src/tests/ranked.rs, and by scripts/test/ranked.py over a program in C. Prints what is wrong, and last that it made all
+   calls. */
 #include "bitpacking.h"
 #include "tables.h"
 
-enum { DOCUMENTS = 3000, WORDS = 5, ROWS = 6, PARTS = ROWS * BITPACKING_CLASSES, ROUNDS = 60 };
+enum { DOCUMENTS = 10, WORDS = 2, COUNTS = 5, PARTS = COUNTS * BITPACKING_CLASSES };
 
 static uint8_t set_bytes[WORDS][BITPACKING_SET_ROOM(DOCUMENTS)], count_bytes[WORDS][BITPACKING_COLUMN_ROOM(DOCUMENTS)], classes[DOCUMENTS];
-static uint32_t tables[WORDS][PARTS + 1], ids[DOCUMENTS], counts[DOCUMENTS];
-/* How often each document has each word. No document has the last word, whose term is not started. */
-static uint32_t of_documents[WORDS + 1][DOCUMENTS];
-static size_t rows[WORDS], blocks[WORDS + 1];
+static uint32_t tables[WORDS][PARTS + 1];
+/* No document has the last word, whose term is not started. */
 static bitpacking_term terms[WORDS + 1];
 static bitpacking_walk walks[WORDS + 1];
-static bitpacking_scored found[DOCUMENTS], right[DOCUMENTS];
-static uint32_t given[DOCUMENTS];
+static bitpacking_scored found[DOCUMENTS];
 
 static void opened(const uint32_t *of_ids, const uint32_t *of_counts, size_t len, size_t word, bitpacking_set *set, bitpacking_column *column)
 {
@@ -25,143 +23,58 @@ static void opened(const uint32_t *of_ids, const uint32_t *of_counts, size_t len
 }
 
 /* The set and the column go before the query: a term has a copy of each. */
-static void start(const uint32_t *of_ids, const uint32_t *of_counts, size_t len, size_t word, size_t table_len)
+static void start(const uint32_t *of_ids, const uint32_t *of_counts, size_t len, size_t word)
 {
-    const bitpacking_term empty = BITPACKING_TERM_EMPTY;
     bitpacking_set set = BITPACKING_SET_EMPTY;
     bitpacking_column column = BITPACKING_COLUMN_EMPTY;
 
     opened(of_ids, of_counts, len, word, &set, &column);
-    terms[word] = empty;
-    expect(bitpacking_term_start(&terms[word], &set, &column, tables[word], table_len) == 0, "a term is not started");
+    expect(bitpacking_term_start(&terms[word], &set, &column, tables[word], PARTS) == 0, "a term is not started");
 }
 
-/* As many of the best as there are and fit are right. */
-static void asks(size_t words, size_t classes_len, size_t at_least, size_t room, size_t hits)
+/* A query found these documents, the best first. */
+static void are(ptrdiff_t answer, const bitpacking_scored *right, size_t len, const char *what)
 {
-    const size_t wanted = hits < room ? hits : room;
     size_t i;
 
-    memset(walks, (int)drawn(256), sizeof walks);
-    memset(found, (int)drawn(256), sizeof found);
-    expect(bitpacking_best(terms, words, classes, classes_len, at_least, walks, words, found, room) == (ptrdiff_t)wanted, "another number of best");
-    for (i = 0; i < wanted; i++)
-        expect(found[i].score == right[i].score && found[i].id == right[i].id, "another document is among the best");
-    for (i = 0; i < words; i++)
-        expect(walks[i].unpacked <= blocks[i], "more blocks are unpacked than there are");
+    expect(answer == (ptrdiff_t)len, what);
+    for (i = 0; i < len; i++)
+        expect(found[i].score == right[i].score && found[i].id == right[i].id, what);
+    memset(found, 0xA5, sizeof found);
 }
 
-/* As many of the best of these documents as fit are right. */
-static void asks_among(size_t len, size_t words, size_t classes_len, size_t room)
+/* The documents that have at least so many of the words, into this room. */
+static void asks(size_t at_least, size_t room, const bitpacking_scored *right, size_t len)
 {
-    const size_t wanted = len < room ? len : room;
-    size_t i;
-
-    memset(found, (int)drawn(256), sizeof found);
-    expect(bitpacking_best_among(given, len, terms, words, classes, classes_len, found, room) == (ptrdiff_t)wanted, "another number of documents");
-    for (i = 0; i < wanted; i++)
-        expect(found[i].score == right[i].score && found[i].id == right[i].id, "another document is among the best of those given");
+    memset(walks, 0xA5, sizeof walks);
+    are(bitpacking_best(terms, WORDS + 1, classes, DOCUMENTS, at_least, walks, WORDS + 1, found, room), right, len, "others are the best");
+    expect(walks[0].unpacked <= 1 && walks[1].unpacked <= 1 && walks[2].unpacked == 0, "more blocks are unpacked than there are");
 }
 
 /* A word adds 300 for each time, up to four times, less the class of the document. */
 static void worked(void)
 {
-    static const uint32_t first[] = {1, 4, 7}, first_counts[] = {2, 1, 1}, second[] = {4, 9}, second_counts[] = {1, 3};
-    static const bitpacking_scored any[] = {{600, 1}, {600, 4}, {600, 9}, {300, 7}}, of_four[] = {{600, 4}, {600, 9}, {300, 7}, {0, 5}};
-    static const uint32_t four[] = {4, 5, 7, 9};
-    size_t count, level, word;
+    static const uint32_t first[] = {1, 4, 7}, first_counts[] = {2, 1, 1}, second[] = {4, 9}, second_counts[] = {1, 9};
+    static const uint32_t given[] = {4, 5, 7, 9};
+    static const bitpacking_scored any[] = {{800, 9}, {600, 1}, {600, 4}, {300, 7}}, of_given[] = {{800, 9}, {600, 4}, {300, 7}, {0, 5}};
+    const bitpacking_term empty = BITPACKING_TERM_EMPTY;
+    uint32_t i;
 
-    for (word = 0; word < 2; word++)
-        for (count = 0; count < 5; count++)
-            for (level = 0; level < BITPACKING_CLASSES; level++)
-                tables[word][BITPACKING_CLASSES * count + level] = (uint32_t)(count * (300 - level));
-    memset(classes, 0, sizeof classes);
+    for (i = 0; i < PARTS; i++)
+        tables[0][i] = tables[1][i] = i / BITPACKING_CLASSES * (300 - i % BITPACKING_CLASSES);
+    terms[0] = terms[1] = terms[WORDS] = empty;
     classes[9] = 100;
-    start(first, first_counts, 3, 0, 5 * BITPACKING_CLASSES);
-    start(second, second_counts, 2, 1, 5 * BITPACKING_CLASSES);
-    blocks[0] = blocks[1] = 1;
-    memcpy(right, any, sizeof any);
-    asks(2, 10, 1, 10, 4);
-    asks(2, 10, 0, 2, 4);
-    right[0] = any[1];
-    asks(2, 10, 2, 10, 1);
-    asks(2, 10, 3, 10, 0);
-    memcpy(given, four, sizeof four);
-    memcpy(right, of_four, sizeof of_four);
-    asks_among(4, 2, 10, 10);
-    asks_among(4, 2, 10, 2);
-    asks_among(0, 2, 10, 10);
-}
-
-/* Draws the table of a word, and which documents have it. */
-static void draw(size_t word)
-{
-    const size_t one_in = drawn(20) + 1, step = drawn(1000) + 1;
-    size_t i, len = 0;
-
-    rows[word] = drawn(ROWS) + 1;
-    for (i = 0; i < BITPACKING_CLASSES * rows[word]; i++) {
-        const size_t row = i / BITPACKING_CLASSES, most = row * step + step / 2;
-        const size_t least = row == 0 ? 0 : tables[word][i - BITPACKING_CLASSES];
-
-        tables[word][i] = (uint32_t)(i % BITPACKING_CLASSES == 0 ? most : least + drawn(most - least + 1));
-    }
-    for (i = 0; i < DOCUMENTS; i++) {
-        of_documents[word][i] = drawn(one_in) == 0 ? (uint32_t)drawn(2 * ROWS) + 1 : 0;
-        if (of_documents[word][i] > 0) {
-            ids[len] = (uint32_t)i;
-            counts[len++] = of_documents[word][i];
-        }
-    }
-    blocks[word] = (len + 127) / 128;
-    start(ids, counts, len, word, BITPACKING_CLASSES * rows[word]);
-}
-
-/* Draws documents. Returns how many there are. */
-static size_t draw_documents(void)
-{
-    const size_t one_in = drawn(20) + 1;
-    size_t i, len = 0;
-
-    for (i = 0; i < DOCUMENTS; i++)
-        if (drawn(one_in) == 0)
-            given[len++] = (uint32_t)i;
-    return len;
-}
-
-static int compared(const void *one, const void *other)
-{
-    const bitpacking_scored *a = (const bitpacking_scored *)one, *b = (const bitpacking_scored *)other;
-
-    if (a->score != b->score)
-        return a->score > b->score ? -1 : 1;
-    return a->id < b->id ? -1 : 1;
-}
-
-/* Writes those of the given documents that have enough of the words, in order. Returns how many there are. */
-static size_t scanned(size_t len, size_t words, size_t classes_len, size_t at_least)
-{
-    size_t i, word, hits = 0;
-
-    for (i = 0; i < len; i++) {
-        const uint32_t id = given[i];
-        size_t has = 0;
-        uint64_t score = 0;
-
-        for (word = 0; word < words; word++)
-            if (of_documents[word][id] > 0) {
-                const size_t row = of_documents[word][id] < rows[word] ? of_documents[word][id] : rows[word] - 1;
-
-                score += tables[word][BITPACKING_CLASSES * row + (id < classes_len ? classes[id] : 0)];
-                has++;
-            }
-        if (has >= at_least) {
-            right[hits].score = score;
-            right[hits++].id = id;
-        }
-    }
-    qsort(right, hits, sizeof *right, compared);
-    return hits;
+    start(first, first_counts, 3, 0);
+    start(second, second_counts, 2, 1);
+    asks(1, 10, any, 4);
+    asks(0, 2, any, 2);
+    asks(2, 10, any + 2, 1);
+    asks(3, 10, any, 0);
+    /* Documents after the classes have class 0. */
+    are(bitpacking_best(terms, 2, classes, 9, 1, walks, 2, found, 1), &(const bitpacking_scored){1200, 9}, 1, "a document without a class");
+    are(bitpacking_best_among(given, 4, terms, WORDS + 1, classes, DOCUMENTS, found, 10), of_given, 4, "other documents of those given");
+    are(bitpacking_best_among(given, 4, terms, WORDS + 1, classes, DOCUMENTS, found, 2), of_given, 2, "others are the two best");
+    are(bitpacking_best_among(given, 0, terms, WORDS + 1, classes, DOCUMENTS, found, 10), of_given, 0, "some of no documents");
 }
 
 /* A term is not started, and stays what it was. */
@@ -218,35 +131,8 @@ static void errors(void)
 
 int main(void)
 {
-    static const size_t rooms[] = {0, 1, 10, 200, DOCUMENTS};
-    const bitpacking_term empty = BITPACKING_TERM_EMPTY;
-    size_t queries = 0, round, i, words, at_least, len;
-
     worked();
-    terms[WORDS] = empty;
-    for (round = 0; round < ROUNDS; round++) {
-        const size_t classes_len = drawn(DOCUMENTS + 1);
-
-        for (i = 0; i < WORDS; i++)
-            draw(i);
-        for (i = 0; i < DOCUMENTS; i++)
-            classes[i] = (uint8_t)drawn(256);
-        for (words = 1; words <= WORDS + 1; words++)
-            for (at_least = 0; at_least <= words; at_least++) {
-                size_t hits;
-
-                for (i = 0; i < DOCUMENTS; i++)
-                    given[i] = (uint32_t)i;
-                hits = scanned(DOCUMENTS, words, classes_len, at_least > 0 ? at_least : 1);
-                for (i = 0; i < sizeof rooms / sizeof *rooms; i++, queries++)
-                    asks(words, classes_len, at_least, rooms[i], hits);
-                len = draw_documents();
-                scanned(len, words, classes_len, 0);
-                for (i = 0; i < sizeof rooms / sizeof *rooms; i++, queries++)
-                    asks_among(len, words, classes_len, rooms[i]);
-            }
-    }
     errors();
-    printf("%lu queries\n", (unsigned long)queries);
+    printf("all calls\n");
     return failed;
 }

@@ -1,9 +1,7 @@
 #!/usr/bin/env python3
 """Builds the search engine of examples/search/ in Rust and in C, with warnings as errors, and tries both on the same files: their indexes
-have to be the same bytes, and their answers the same text. The answers on examples/search/corpus/ are compared with `grep`, others with
-numbers worked by hand, and the best documents with those of ranked.py. Last come a thousand damaged indexes, in C with the address sanitizer.
-The program in C takes the archives that scripts/build/archives.py wrote, which is called if they are not there. The last line is 'N passed, M
-failed'.
+have to be the same bytes, and their answers the same text. The answers on examples/search/corpus/ are compared with `grep`, and the best
+documents with those of ranked.py. Last come a thousand damaged indexes, in C with the address sanitizer.
 """
 import os
 import random
@@ -15,7 +13,7 @@ import sys
 import tempfile
 
 sys.path.insert(1, f"{sys.path[0]}/..")
-from common import ROOT, leave_out, report, run
+from common import ROOT, leave_out, run
 import archives
 import c
 from files import bytes_of, failed, other, written
@@ -50,29 +48,9 @@ QUERIES = {
     "2.5 | bees*": lambda has: (has("2") & has("5")) | has("bees[a-z0-9]*"),
     "warm-mo*": lambda has: has("warm") & has("mo[a-z0-9]*"),
     "mo*on | water*-": lambda has: (has("mo") & has("on")) | has("water"),
-}
-# A thousand paragraphs: each has its number, and one word more for each of these that divides the number.
-NUMBERS = {"even": 2, "fizz": 3, "buzz": 5}
-# How many of them answer a query, by hand: 1000/2 = 500, 333, 200, and 33 multiples of 30; 500 - 166; 467 - 233. With 1
-# begin 1, 10 to 19, 100 to 199 and 1000, and with 10 begin 10, 100 to 109 and 1000.
-COUNTS = {
-    "number": 1000,
-    "n1*": 112,
-    "n1* -n10*": 100,
-    "fizz buzz even": 33,
-    "even -fizz": 334,
-    "(fizz | buzz) -even": 234,
-    "n7 even": 0,
-    # 70 brackets after one another, whose operands wait for the next word, and 60 after a minus, of which every second takes its number away.
-    "number (" * 70 + "fizz" + ")" * 70: 333,
-    "number -(" * 60 + "fizz" + ")" * 60: 333,
-    " | ".join(f"n{k}" for k in range(1, 101)): 100,
-}
-# What is read for a query, and how many answer it, by hand. With 3 begin 3, 30 to 39 and 300 to 399; of these numbers 1 + 4 + 34 are multiples of 3.
-BEGIN_WITH_3 = [f"n{k}: 1 documents" for k in sorted(map(str, [3, *range(30, 40), *range(300, 400)]))]
-EXPLAINED = {
-    "number n30": (["number: 1000 documents", "n30: 1 documents", "a query of 2 sets: 1 documents"], 1),
-    "fizz -n3*": (["fizz: 333 documents", *BEGIN_WITH_3, "a query of 112 sets: 294 documents"], 333 - 39),
+    # 70 brackets after one another, whose operands wait for the next word, and 60 after a minus, of which every second takes its word away.
+    "water (" * 70 + "warm" + ")" * 70: lambda has: has("water") & has("warm"),
+    "water -(" * 60 + "warm" + ")" * 60: lambda has: has("water") & has("warm"),
 }
 # Files, and the names that their documents get, in the order of their bytes. None is there for a file that is left out.
 FILES = {
@@ -84,16 +62,6 @@ FILES = {
     "long": (b"word " + b"x" * 64 + b" " + b"y" * 65, "long:1  word " + "x" * 64 + " " + "y" * 30),
     "signs": (b"--- !\n", None),
     "utf8": (b"x" * 98 + b" \xC3\xA9 word", "utf8:1  " + "x" * 98 + " "),
-}
-# Two documents of two and three words, and their scores for `b` and `a`: with 2.5 words on average, those of the first are
-# ln(1 + 1.5/1.5) * 2.2 / (1 + 1.2 * (0.25 + 0.75 * 2/2.5)) = 0.693 * 1.089, and ln(1 + 0.5/2.5) * 1.089 = 0.182 * 1.089. The second
-# has `a` three times: 0.182 * 3 * 2.2 / (3 + 1.2 * (0.25 + 0.75 * 3/2.5)) = 0.182 * 1.507.
-SCORED = {"1": b"a b", "2": b"a, a; A!"}
-SCORES = {
-    "b": "  0.755  F/1:1  a b\n",
-    "a": "  0.275  F/2:1  a, a; A!\n  0.199  F/1:1  a b\n",
-    # The first document has b, which comes after a minus, and so does not count.
-    "a -(b c)": "  0.275  F/2:1  a, a; A!\n  0.199  F/1:1  a b\n",
 }
 # Queries that are refused, after which part of them, and why.
 NO_WORD = "a word is missing, or one without a minus"
@@ -123,12 +91,10 @@ class Programs:
             self.paths[name] = f"{folder}/{name}/search"
             os.mkdir(f"{folder}/{name}")
             command = [*c.C99, "-O1", *flags, *SOURCES, f"{archives.OUT}/{archives.ALL}", "-lm", "-o", self.paths[name]]
-            self.add("the program in C", run(*command))
-        self.add("the program in Rust", rust.cargo("build", "--release", package=f"{FOLDER}/rust"))
+            self.faults.append(("the program in C", failed(run(*command))))
+        built = rust.cargo("build", "--release", package=f"{FOLDER}/rust")
+        self.faults.append(("the program in Rust", failed(built)))
         self.paths["rust"] = f"{archives.OUT}/target/release/search"
-
-    def add(self, name, built):
-        self.faults.append((name, failed(built)))
 
     def run(self, name, *arguments):
         """The status of a program, what it prints, and its messages."""
@@ -189,33 +155,12 @@ def against_grep(programs):
             wanted = meaning(has)
             if names(text) != wanted or status != (0 if wanted else 1) or messages:
                 wrong = wrong or f"wanted {sorted(wanted)}, and got {status} {text} {messages}"
-            yield f"{query} in {searched}", wrong
+            _, count, _, differ = programs.same("find", "--count", index, query)
+            yield f"{query} in {searched}", wrong or differ or other(count.split()[:1], [str(len(wanted))])
 
 
-def by_hand(programs):
-    """Answers that were worked by hand."""
-    text = "\n\n".join(f"number n{k}" + "".join(f" {word}" for word, by in NUMBERS.items() if k % by == 0) for k in range(1, 1001))
-    written(f"{programs.folder}/numbers", {"numbers.txt": text.encode()})
-    index, wrong = programs.index("--paragraphs", "numbers")
-    yield "an index of numbers", wrong
-    for query, count in COUNTS.items():
-        status, text, _, wrong = programs.same("find", "--count", index, query)
-        right = (status, text) == (0 if count else 1, f"{count} of 1000 documents\n")
-        yield f"how many have {query}", wrong or (None if right else f"printed {text}")
-        _, text, _, wrong = programs.same("find", "--best", "999", index, query)
-        yield f"the best of {query}", wrong or other(len(re.findall(r"^ *[\d.]+  numbers/numbers.txt:", text, re.M)), min(count, 999))
-    for query, (explained, count) in EXPLAINED.items():
-        for name in programs.paths:
-            answer = programs.run(name, "find", "--count", "--explain", index, query)
-            yield f"{query} explained in {name}", other(answer, (0, f"{count} of 1000 documents\n", "\n".join([*explained, ""])))
-
-    written(f"{programs.folder}/F", SCORED)
-    index, wrong = programs.index("F/")
-    yield "an index of two files", wrong
-    for query, wanted in SCORES.items():
-        _, text, _, wrong = programs.same("find", index, query)
-        yield f"the scores for {query}", wrong or other(text, wanted)
-
+def by_name(programs):
+    """The names of documents, which are worked by hand."""
     written(f"{programs.folder}/files", {path: text for path, (text, _) in FILES.items()})
     index, wrong = programs.index("files")
     yield "an index of files", wrong
@@ -231,21 +176,12 @@ def refusals(programs):
     messages = {query: f"the query, after '{read}': {why}" for query, (read, why) in REFUSED.items()}
     messages["(" * (LONGEST_QUERY + 1)] = "the query is too long"
     messages["(" * LONGEST_QUERY] = f"the query, after '{'(' * LONGEST_QUERY}': {NO_WORD}"
-    for query, message in messages.items():
-        for name in programs.paths:
-            yield f"the query {query[:20]} in {name}", other(
-                programs.run(name, "find", index, query), (2, "", f"search: {index}: {message}\n")
-            )
+    queries = ((f"{query[:20]} of {len(query)} letters", query, message) for query, message in messages.items())
+    calls = {name: (["find", index, query], f"search: {index}: {message}\n") for name, query, message in queries}
     usages = [[], ["seek", index, "a"], ["index", "files"], *(["find", "--best", it, index, "a"] for it in ("x", "-1", "1000"))]
-    calls = {f"the arguments {it}": (it, "search --help says what is wanted") for it in usages}
-    for path, message in {
-        "split": NO_REGULAR,
-        "link": NO_REGULAR,
-        "pipe": NO_REGULAR,
-        "/dev/null": NO_REGULAR,
-        "nowhere/new": MISSING,
-    }.items():
-        calls[f"an index at {path}"] = ["index", "files", path], f"{path}: {message}"
+    calls |= {f"the arguments {it}": (it, "search --help says what is wanted") for it in usages}
+    paths = {it: NO_REGULAR for it in ("split", "link", "pipe", "/dev/null")} | {"nowhere/new": MISSING}
+    calls |= {f"an index at {path}": (["index", "files", path], f"{path}: {message}") for path, message in paths.items()}
     calls["no folder"] = ["index", "nowhere", "new"], f"nowhere: {MISSING}"
     calls["no index"] = ["find", "nowhere", "a"], f"nowhere: {MISSING}"
     calls["text for an index"] = ["find", "files/b-x", "a"], "files/b-x: this is no index: it does not begin with 'search4'"
@@ -289,12 +225,10 @@ def kills(programs):
     """Runs that the system ends when they have written a byte. Each leaves a file, which the next run removes, as it does not the file of a
     process that runs, or one with another name."""
     written(programs.folder, {it: "" for it in (f"killed.{os.getpid()}.tmp", "killed.x.tmp", "killed.1.tmp.x", "others.99999999.tmp")})
-    for name, path in programs.paths.items():
-        if name == "sanitized":
-            continue
-        given = {"folder": programs.folder, "env": ENVIRONMENT, "stderr": subprocess.PIPE}
+    given = {"folder": programs.folder, "env": ENVIRONMENT, "stderr": subprocess.PIPE}
+    limit = lambda: resource.setrlimit(resource.RLIMIT_FSIZE, (1, 1))
+    for name, path in [(name, path) for name, path in programs.paths.items() if name != "sanitized"]:
         before = set(os.listdir(programs.folder))
-        limit = lambda: resource.setrlimit(resource.RLIMIT_FSIZE, (1, 1))
         killed = run(path, "index", "files", "killed", preexec_fn=limit, **given)
         left = set(os.listdir(programs.folder)) - before
         yield f"{name} is killed", other((killed.returncode < 0, len(left)), (True, 1))
@@ -306,6 +240,9 @@ def kills(programs):
 def damages(programs):
     """Searches in damaged indexes, by queries that read all lists of the index, or those of some words."""
     refused = 0
+    words = {"even": 2, "fizz": 3, "buzz": 5}
+    text = "\n\n".join(f"number n{k}" + "".join(f" {word}" for word, by in words.items() if k % by == 0) for k in range(1, 1001))
+    written(f"{programs.folder}/numbers", {"numbers.txt": text})
     every = " | ".join(f"{sign}*" for sign in "0123456789abcdefghijklmnopqrstuvwxyz")
     queries = ["number | even | fizz | buzz | water | warm | clock", every, "number even fizz", "number -n1*"]
     for first, arguments in (0, ("corpus",)), (DAMAGES // 2, ("--paragraphs", "numbers")):
@@ -329,14 +266,9 @@ def checks():
         programs = Programs(folder)
         yield from programs.faults
         if all(why is None for _, why in programs.faults):
-            for part in against_grep, by_hand, ranked.checks, refusals, kills, damages:
+            for part in against_grep, by_name, ranked.checks, refusals, kills, damages:
                 yield from part(programs)
 
 
-def main():
-    status = archives.status_without("the search engine", "cc", "cargo")
-    return report(checks()) if status is None else status
-
-
 if __name__ == "__main__":
-    sys.exit(main())
+    sys.exit(archives.reported("the search engine", checks, "cc", "cargo"))

@@ -1,9 +1,7 @@
 #!/usr/bin/env python3
-"""Runs the vectors of vectors/ over the decoders of docs/FORMAT.md, wrong implementations, and the program.
-
-docs/VECTORS.md says where the vectors come from. `vectors.py PROGRAM ..` runs them over another program of the same line language,
-in place of ./bitpack, `vectors.py --programs` over the programs alone, and `vectors.py --readers` over all others. The last line is 'N passed, M
-failed', which counts the readers of the vectors.
+"""Runs the vectors of vectors/ over the decoders of docs/FORMAT.md, wrong implementations, and the program. docs/VECTORS.md says where they
+come from. `vectors.py PROGRAM ..` runs them over another program of the same line language, in place of ./bitpack, `vectors.py --programs`
+over the programs alone, and `vectors.py --readers` over all others. The last line counts the readers of the vectors.
 """
 
 import functools
@@ -162,22 +160,6 @@ def rule_checks(names):
         yield f"the codes of block {row['packer']} {row['kind']} {row['width']}", found, right
 
 
-def by_parquet(width, values):
-    """Values as Parquet packs them in a bit-packed run: the bits of each from the lowest on, from the lowest bit of each byte on."""
-    bits = [value >> j & 1 for value in values for j in range(width)]
-    return bytes(sum(bit << j for j, bit in enumerate(bits[at : at + 8])) for at in range(0, len(bits), 8))
-
-
-def parquet_checks(names):
-    """Plain blocks of one lane are what Parquet packs. The first bytes are the example of its specification."""
-    yield "0 to 7 by Parquet", by_parquet(3, range(8)), bytes.fromhex("88c6fa")
-    for row in table("blocks.tsv"):
-        if (row["packer"], row["kind"]) == ("1x", "plain"):
-            width, values = int(row["width"]), numbers(row["values"])
-            yield f"block 1x {width} by Parquet", by_parquet(width, values), octets(row["bytes"])
-            yield f"block 1x {width} by the page", names["body_of"](1, width, values), by_parquet(width, values)
-
-
 def page_checks(names):
     """The bytes beside the faults of docs/FORMAT.md, by the decoder of their version in one lane, of sets, or of columns."""
     lists = {title: functools.partial(names[name], 1) for title, name in [("Refusals", "decode"), ("Refusals of version 2", "decode2")]}
@@ -244,7 +226,7 @@ def programs():
 def of_python():
     """The checks of the readers in Python, with their names."""
     names = names_of(model())
-    found = [it for checks in [*CHECKS.values(), rule_checks, parquet_checks, page_checks] for it in checks(names)]
+    found = [it for checks in [*CHECKS.values(), rule_checks, page_checks] for it in checks(names)]
     yield "vectors/decoders.py, model.py, set_model.py, column_model.py and line_model.py", found
     yield "wrong implementations", mistake_checks()
 

@@ -1,8 +1,6 @@
 #!/usr/bin/env python3
-"""Builds examples/web, calls its functions in node, and opens its page in Chromium.
-
-The build needs the library of Rust for wasm32-unknown-unknown, or Debian's packages, as scripts/test/machines.py says; the page needs Debian's
-package `chromium`. The last line is 'N passed, M failed'.
+"""Builds examples/web, calls its functions in node, and opens its page in Chromium. The build needs the library of Rust for
+wasm32-unknown-unknown, or Debian's packages, as scripts/test/machines.py says; the page needs Debian's package `chromium`.
 """
 import functools
 import http.server

@@ -1,11 +1,11 @@
 -- The best stay so when many documents more are skipped, or one is selected; and which documents are among some.
-use Rattle.std.proofs.Common.{◌≡◌, ℕ, zero, suc, ◌+◌, ◌-◌, ◌<◌, ◌≤◌, ◌⊎◌, Bool, false, true, cond, eqb, None, Some, List, [], ◌∷◌, ◌++◌, length, get_or, take, drop, refl, sym, ap, ◌∙◌, subst, inl, inr, arith}
+use Rattle.std.proofs.Common.{◌≡◌, ℕ, zero, suc, ◌+◌, ◌<◌, ◌≤◌, ◌⊎◌, Bool, false, true, cond, eqb, None, Some, List, [], ◌∷◌, ◌++◌, length, get_or, take, drop, refl, sym, ap, ◌∙◌, subst, inl, inr, arith}
 use Rattle.std.specs.Prelude.{◌||◌, ◌&&◌, not}
 use Rattle.std.specs.List.{sum_by}
 use Rattle.std.specs.Option.{is_some}
 use Rattle.std.specs.List.Sorted.{IsStrictlyIncreasing}
-use Rattle.std.proofs.lemmas.Bool.{cases_eq, cases_lt, eq-eqb, le-leb, lt-leb, eqb-true, ltb-true, true≢false}
-use Rattle.std.proofs.lemmas.List.{get_or-append_right, get_or-drop, get_or-take, get_or_append_left, length-append, length-drop, length-take, take_all}
+use Rattle.std.proofs.lemmas.Bool.{cases_lt, eq-eqb, le-leb, lt-leb, eqb-true, ltb-true, true≢false}
+use Rattle.std.proofs.lemmas.List.{get_or-drop, get_or-take, length-drop, length-take, take_all}
 use Rattle.std.proofs.Math.Seq.{take-add}
 use Rattle.std.proofs.lemmas.List.Folds.{list_any-append, list_any_at, list_any_more}
 use Rattle.bitpack_sets.specs.Reads.{has}
@@ -13,7 +13,8 @@ use Rattle.bitpack_sets.specs.Slices.{first_fall}
 use Rattle.bitpack_ranked.specs.declared.found.Scored.{Scored}
 use Rattle.bitpack_ranked.specs.Ranked.{AreBest, IsScored, part_in, position_of}
 use Rattle.bitpack_ranked.specs.Terms.{Word}
-use Rattle.bitpack_ranked.specs.inner.Selecting.{AreSkipped, IsFull, IsSelected}
+use Rattle.bitpack_ranked.specs.inner.Candidates.{Rise}
+use Rattle.bitpack_ranked.specs.inner.Selecting.{IsFull, IsSelected}
 use Rattle.bitpack_ranked.proofs.BestSteps.{best_none, best_same, best_selected, best_skipped, same_scored}
 use Rattle.bitpack_ranked.proofs.PositionLemmas.{has_position, id_at, rises}
 
@@ -106,186 +107,138 @@ module _ (p q : ℕ → Bool) (words : List Word) (classes : List ℕ) (k : ℕ)
         ]) best)
   ]
 
--- ---- documents that are copied, and those that are left
+-- ---- candidates, one after the other
 
--- of the first i documents these were copied, and the others cannot be among the best
-pub record Copied (words : List Word) (classes documents : List ℕ) (k : ℕ) (found : List Scored) (i : ℕ) (copied : List ℕ) : Type 0 where
-  pub increasing : IsStrictlyIncreasing copied
-  pub from : (j : ℕ) → j < length copied → (p : ℕ) × (p < i) × (get_or documents p 0 ≡ get_or copied j 0)
-  pub left : (p : ℕ) → p < i → (has (get_or documents p 0) copied ≡ true)
-      ⊎ (score : ℕ) × (sum_by (part_in classes (get_or documents p 0)) words ≤ score) × IsFull k (record { score = score; id = get_or documents p 0 }) found
+-- an id was an old one, or one that passes a test and is no candidate, or one of the first candidates that passes it
+abbrev pub passed : (ℕ → Bool) → (ℕ → Bool) → List ℕ → ℕ → ℕ → Bool
+passed old test ids i id = (old id || (test id && not (has id ids))) || (test id && has id (take i ids))
 
-module _ (words : List Word) (classes documents : List ℕ) (k : ℕ) (found : List Scored) where
-  pub none_copied : Copied words classes documents k found 0 []
-  none_copied = record { increasing = λ j lt. absurd (omega arith); from = λ j lt. absurd (omega arith); left = λ p lt. absurd (omega arith) }
+first_cases : (o t h : Bool) → ((o || (t && not h)) || (t && false)) ≡ true → (o ≡ true) ⊎ ((t ≡ true) × (h ≡ false))
+first_cases true t h e = inl refl
+first_cases false true true e = absurd cc
+first_cases false true false e = inr (refl, refl)
+first_cases false false h e = absurd cc
 
-  module _ (i : ℕ) (lt : i < length documents) (copied : List ℕ) (done : Copied words classes documents k found i copied) where
-    pub one_left : (score : ℕ) → sum_by (part_in classes (get_or documents i 0)) words ≤ score
-        → IsFull k (record { score = score; id = get_or documents i 0 }) found → Copied words classes documents k found (i + 1) copied
-    one_left score le full = record {
-      increasing = done.increasing;
-      from = λ j within. let (p, less, same) = done.from j within in (p, omega (arith, less), same);
-      left = λ p upto. elim (cases_eq p i) [
-        | inl at ↦ rw at (inr (score, le, full))
-        | inr other ↦ done.left p (omega (arith, upto, other))
-      ];
-    }
+last_cases : (o t h : Bool) → ((o || (t && not h)) || (t && h)) ≡ (o || t)
+last_cases true t h = refl
+last_cases false true true = refl
+last_cases false true false = refl
+last_cases false false h = refl
 
-    abbrev longer : List ℕ
-    longer = copied ++ get_or documents i 0 ∷ []
+more_cases : (o t h a b : Bool) → (a ≡ true → b ≡ true) → ((o || (t && not h)) || (t && a)) ≡ true → ((o || (t && not h)) || (t && b)) ≡ true
+more_cases true t h a b more e = refl
+more_cases false true true a b more e = more e
+more_cases false true false a b more e = refl
+more_cases false false h a b more e = e
 
-    count : length longer ≡ length copied + 1
-    count = length-append copied (get_or documents i 0 ∷ [])
+less_cases : (o t h a b : Bool) → (t ≡ true → b ≡ true → a ≡ true) → ((o || (t && not h)) || (t && b)) ≡ true → ((o || (t && not h)) || (t && a)) ≡ true
+less_cases true t h a b less e = refl
+less_cases false true true a b less e = less refl e
+less_cases false true false a b less e = refl
+less_cases false false h a b less e = e
 
-    last : get_or longer (length copied) 0 ≡ get_or documents i 0
-    last = get_or-append_right copied (get_or documents i 0 ∷ []) (length copied) (length copied) 0 refl (omega arith) ∙ ap (λ n. get_or (get_or documents i 0 ∷ []) n 0) (let e : length copied - length copied ≡ 0 = omega arith in e)
+not_yet : (o t a : Bool) → o ≡ false → a ≡ false → ((o || (t && not true)) || (t && a)) ≡ true → ⊥
+not_yet true t a e f is = true≢false e
+not_yet false true true e f is = true≢false f
+not_yet false true false e f is = true≢false (sym is)
+not_yet false false a e f is = true≢false (sym is)
 
-    earlier : (j : ℕ) → j < length copied → get_or longer j 0 ≡ get_or copied j 0
-    earlier j within = get_or_append_left copied (get_or documents i 0 ∷ []) 0 j within
+now_passed : (o t h b : Bool) → t ≡ true → b ≡ true → ((o || (t && not h)) || (t && b)) ≡ true
+now_passed true true h b e f = refl
+now_passed false true true b e f = f
+now_passed false true false b e f = refl
+now_passed o false h b e f = absurd cc
 
-    pub one_copied : IsStrictlyIncreasing documents → Copied words classes documents k found (i + 1) longer
-    one_copied increasing = record {
-      increasing = λ j within. elim (cases_lt (j + 1) (length copied)) [
-        | inl inside ↦ omega (arith, earlier j (omega (arith, inside)), earlier (j + 1) inside, done.increasing j inside)
-        | inr end ↦
-            let at : j + 1 ≡ length copied = omega (arith, end, within, count) in
-            let (p, less, same) = done.from j (omega (arith, at)) in
-            omega (arith, earlier j (omega (arith, at)), same, rises documents increasing p i less lt, ap (λ n. get_or longer n 0) at, last)
-      ];
-      from = λ j within. elim (cases_lt j (length copied)) [
-        | inl inside ↦ let (p, less, same) = done.from j inside in (p, omega (arith, less), same ∙ sym (earlier j inside))
-        | inr end ↦
-            let at : j ≡ length copied = omega (arith, end, within, count) in
-            (i, omega arith, sym (ap (λ n. get_or longer n 0) at ∙ last))
-      ];
-      left = λ p upto. elim (cases_eq p i) [
-        | inl at ↦ inl (list_any-append (λ y. eqb y (get_or documents p 0)) copied (get_or documents i 0 ∷ [])
-            ∙ or_second (has (get_or documents p 0) copied) (has (get_or documents p 0) (get_or documents i 0 ∷ []))
-            (or_first (eqb (get_or documents i 0) (get_or documents p 0)) false (eq-eqb (get_or documents i 0) (get_or documents p 0) (ap (λ n. get_or documents n 0) (sym at)))))
-        | inr other ↦ elim (done.left p (omega (arith, upto, other))) [
-          | inl is ↦ inl (list_any-append (λ y. eqb y (get_or documents p 0)) copied (get_or documents i 0 ∷ [])
-              ∙ or_first (has (get_or documents p 0) copied) (has (get_or documents p 0) (get_or documents i 0 ∷ [])) is)
-          | inr full ↦ inr full
-        ]
-      ];
-    }
-
-  pub all_copied : (i : ℕ) (copied : List ℕ) → length documents ≤ i → i ≤ length documents → Copied words classes documents k found i copied
-      → AreSkipped words classes documents copied k found
-  all_copied i copied all within done = record {
-    increasing = done.increasing;
-    within = λ id is.
-        let (lt, same) = has_index id copied is in
-        let (p, less, its) = done.from (position_of copied id) lt in
-        subst (λ x. has x documents ≡ true) (its ∙ same) (has_at documents p (omega (arith, less, within)));
-    skipped = λ p lt. done.left p (omega (arith, all, lt));
-  }
-
--- ---- the documents that are skipped, and those that are kept after them
-
--- whether an id passes a test, or is of a document that is not wanted
-abbrev pub lacking : (ℕ → Bool) → List ℕ → List ℕ → ℕ → Bool
-lacking test documents wanted id = test id || (has id documents && not (has id wanted))
-
-and_cases : (d w : Bool) → (d && not w) ≡ true → (d ≡ true) × (w ≡ false)
-and_cases true true e = absurd cc
-and_cases true false e = (refl, refl)
-and_cases false w e = absurd cc
-
-lacks : (t d w : Bool) → t ≡ false → w ≡ true → (t || (d && not w)) ≡ false
-lacks true d w e f = absurd cc
-lacks false true true e f = refl
-lacks false false w e f = refl
-lacks false true false e f = absurd cc
-
-join : (t d w : Bool) → (w ≡ true → d ≡ true) → ((t || (d && not w)) || w) ≡ true → (t || d) ≡ true
-join true d w sub e = refl
-join false true w sub e = refl
-join false false true sub e = sub refl
-join false false false sub e = e
-
-parted : (t d w : Bool) → (t || d) ≡ true → ((t || (d && not w)) || w) ≡ true
-parted true d w e = refl
-parted false true true e = refl
-parted false true false e = refl
-parted false false w e = absurd cc
-
-module _ (words : List Word) (classes documents wanted : List ℕ) (test : ℕ → Bool) (k : ℕ) (found : List Scored) where
-  pub skip_others : AreSkipped words classes documents wanted k found → AreBest (IsScored test words classes) k found
-      → AreBest (IsScored (λ id. lacking test documents wanted id) words classes) k found
-  skip_others skipped best = many_skipped test (λ id. lacking test documents wanted id) words classes k (λ id is. or_first (test id) _ is) found
-      (λ id is. elim (or_cases (test id) (has id documents && not (has id wanted)) is) [
+module _ (words : List Word) (classes : List ℕ) (k : ℕ) (ids : List ℕ) (old test : ℕ → Bool) where
+  pub none_passed : (found : List Scored)
+      → ((id : ℕ) → test id ≡ true → (has id ids ≡ true)
+      ⊎ (score : ℕ) × (sum_by (part_in classes id) words ≤ score) × IsFull k (record { score = score; id = id }) found)
+      → AreBest (IsScored old words classes) k found → AreBest (IsScored (passed old test ids 0) words classes) k found
+  none_passed found others best = many_skipped old (passed old test ids 0) words classes k (λ id is. or_first (old id || (test id && not (has id ids))) _ (or_first (old id) _ is)) found
+      (λ id is. elim (first_cases (old id) (test id) (has id ids) is) [
         | inl was ↦ inl was
-        | inr other ↦
-            let (there, out) = and_cases (has id documents) (has id wanted) other in
-            let (lt, same) = has_index id documents there in
-            elim (skipped.skipped (position_of documents id) lt) [
-              | inl is_wanted ↦ absurd (true≢false (sym is_wanted ∙ ap (λ x. has x wanted) same ∙ out))
-              | inr full ↦ inr (subst (λ x. (score : ℕ) × (sum_by (part_in classes x) words ≤ score) × IsFull k (record { score = score; id = x }) found) same full)
-            ]
+        | inr other ↦ elim (others id other.0) [
+          | inl there ↦ absurd (true≢false (sym there ∙ other.1))
+          | inr beaten ↦ inr beaten
+        ]
       ]) best
 
-  pub wanted_done : ((id : ℕ) → has id wanted ≡ true → has id documents ≡ true)
-      → AreBest (IsScored (λ id. lacking test documents wanted id || has id wanted) words classes) k found
-      → AreBest (IsScored (λ id. test id || has id documents) words classes) k found
-  wanted_done within best = many_same (λ id. lacking test documents wanted id || has id wanted) (λ id. test id || has id documents) words classes k
-      (λ id is. join (test id) (has id documents) (has id wanted) (within id) is) found
-      (λ id is. parted (test id) (has id documents) (has id wanted) is) best
+  pub all_passed : (found : List Scored) (i : ℕ) → length ids ≤ i → AreBest (IsScored (passed old test ids i) words classes) k found
+      → AreBest (IsScored (λ id. old id || test id) words classes) k found
+  all_passed found i all best =
+      many_same (passed old test ids i) (λ id. old id || test id) words classes k (λ id is. sym (same id) ∙ is) found (λ id is. same id ∙ is) best
+    where
+      same : (id : ℕ) → passed old test ids i id ≡ (old id || test id)
+      same id = ap (λ xs. (old id || (test id && not (has id ids))) || (test id && has id xs)) (take_all i ids all) ∙ last_cases (old id) (test id) (has id ids)
 
-  pub wanted_lack : ((id : ℕ) → has id wanted ≡ true → has id documents ≡ true) → ((id : ℕ) → has id documents ≡ true → test id ≡ false)
-      → (id : ℕ) → has id wanted ≡ true → lacking test documents wanted id ≡ false
-  wanted_lack within fresh id is = lacks (test id) (has id documents) (has id wanted) (fresh id (within id is)) is
+  module _ (rise : Rise ids (length ids)) (fresh : (id : ℕ) → test id ≡ true → old id ≡ false) (i : ℕ) (lt : i < length ids) where
+    abbrev this : ℕ
+    this = get_or ids i 0
 
--- ---- one document after the other
+    not_before : has this (take i ids) ≡ false
+    not_before = go (has this (take i ids)) refl
+      where
+        go : (b : Bool) → has this (take i ids) ≡ b → has this (take i ids) ≡ false
+        go false e = e
+        go true e =
+            let (within, same) = has_index this (take i ids) e in
+            let p = position_of (take i ids) this in
+            let less : p < i = omega (arith, within, length-take i ids) in
+            absurd (omega (arith, rise p i less lt, sym (get_or-take i ids p 0 less) ∙ same))
 
-module _ (words : List Word) (classes : List ℕ) (k : ℕ) where
-  pub first_of_all : (found : List Scored) (test : ℕ → Bool) → AreBest (IsScored test words classes) k found
-      → AreBest (IsScored (λ id. test id || has id []) words classes) k found
-  first_of_all found test best = many_same test (λ id. test id || has id []) words classes k (λ id is. or_first (test id) false is) found
-      (λ id is. elim (or_cases (test id) false is) [
-        | inl was ↦ was
-        | inr no' ↦ absurd cc
-      ]) best
+    more : (id : ℕ) → passed old test ids i id ≡ true → passed old test ids (i + 1) id ≡ true
+    more id is = more_cases (old id) (test id) (has id ids) (has id (take i ids)) (has id (take (i + 1) ids))
+        (λ before. has_more id ids i lt ∙ or_first (has id (take i ids)) _ before) is
 
-  pub of_all : (found : List Scored) (documents : List ℕ) (i : ℕ) (test : ℕ → Bool) → length documents ≤ i
-      → AreBest (IsScored (λ id. test id || has id (take i documents)) words classes) k found
-      → AreBest (IsScored (λ id. test id || has id documents) words classes) k found
-  of_all found documents i test all best = subst (λ ids. AreBest (IsScored (λ id. test id || has id ids) words classes) k found) (take_all i documents all) best
+    -- it does not pass the test
+    skipped : (found : List Scored) → test this ≡ false → AreBest (IsScored (passed old test ids i) words classes) k found
+        → AreBest (IsScored (passed old test ids (i + 1)) words classes) k found
+    skipped found fails best = many_same (passed old test ids i) (passed old test ids (i + 1)) words classes k more found
+        (λ id is. less_cases (old id) (test id) (has id ids) (has id (take i ids)) (has id (take (i + 1) ids)) (λ passes now.
+            elim (or_cases (has id (take i ids)) (eqb this id) (sym (has_more id ids i lt) ∙ now)) [
+              | inl before ↦ before
+              | inr same ↦ absurd (true≢false (sym passes ∙ ap test (sym (eqb-true this id same)) ∙ fails))
+            ]) is) best
 
-  module _ (documents : List ℕ) (increasing : IsStrictlyIncreasing documents) (i : ℕ) (lt : i < length documents) (test : ℕ → Bool)
-      (fresh : (id : ℕ) → has id documents ≡ true → test id ≡ false) where
-    abbrev id : ℕ
-    id = get_or documents i 0
+    taken : (score : ℕ) → test this ≡ true → score ≡ sum_by (part_in classes this) words → (found new : List Scored)
+        → (IsSelected k (record { score = score; id = this }) found new) ⊎ ((new ≡ found) × IsFull k (record { score = score; id = this }) found)
+        → AreBest (IsScored (passed old test ids i) words classes) k found → AreBest (IsScored (passed old test ids (i + 1)) words classes) k new
+    taken score passes adds_up found new done best = one_kept (passed old test ids i) (passed old test ids (i + 1)) words classes k more
+        (record { score = score; id = this }) found new
+        (now_passed (old this) (test this) (has this ids) (has this (take (i + 1) ids)) passes
+            (has_more this ids i lt ∙ or_second (has this (take i ids)) _ (eq-eqb this this refl))) adds_up
+        (λ id is. elim (true_or_false (eqb this id)) [
+          | inl same ↦ inr (sym (eqb-true this id same))
+          | inr other ↦ inl (less_cases (old id) (test id) (has id ids) (has id (take i ids)) (has id (take (i + 1) ids)) (λ p now.
+              elim (or_cases (has id (take i ids)) (eqb this id) (sym (has_more id ids i lt) ∙ now)) [
+                | inl before ↦ before
+                | inr same ↦ absurd (true≢false (sym same ∙ other))
+              ]) is)
+        ])
+        (λ is. not_yet (old this) (test this) (has this (take i ids)) (fresh this passes) not_before
+            (sym (ap (λ b. (old this || (test this && not b)) || (test this && has this (take i ids))) (has_at ids i lt)) ∙ is)) done best
 
-    -- it is not one of those before
-    new_id : (test id || has id (take i documents)) ≡ true → ⊥
-    new_id is = elim (or_cases (test id) (has id (take i documents)) is) [
-      | inl was ↦ true≢false (sym was ∙ fresh id (has_at documents i lt))
-      | inr before ↦
-          let (within, same) = has_index id (take i documents) before in
-          let p = position_of (take i documents) id in
-          let less : p < i = omega (arith, within, length-take i documents) in
-          omega (arith, rises documents increasing p i less lt, sym (get_or-take i documents p 0 less) ∙ same)
+    -- a document that has an id is taken, or skipped
+    abbrev Step : ℕ → Type 0
+    Step id = (score : ℕ) → (test id ≡ true → score ≡ sum_by (part_in classes id) words) → (found new : List Scored)
+        → ((test id ≡ true) × IsSelected k (record { score = score; id = id }) found new)
+        ⊎ ((new ≡ found) × ((test id ≡ false) ⊎ IsFull k (record { score = score; id = id }) found))
+        → AreBest (IsScored (passed old test ids i) words classes) k found → AreBest (IsScored (passed old test ids (i + 1)) words classes) k new
+
+    this_passed : Step this
+    this_passed score adds_up found new done best = elim done [
+      | inl selected ↦ taken score selected.0 (adds_up selected.0) found new (inl selected.1) best
+      | inr rest ↦ elim (true_or_false (test this)) [
+        | inr fails ↦ subst (λ its. AreBest (IsScored (passed old test ids (i + 1)) words classes) k its) (sym rest.0) (skipped found fails best)
+        | inl passes ↦ elim rest.1 [
+          | inl fails ↦ absurd (true≢false (sym passes ∙ fails))
+          | inr full ↦ taken score passes (adds_up passes) found new (inr (rest.0, full)) best
+        ]
+      ]
     ]
 
-    pub next_kept : (score : ℕ) → score ≡ sum_by (part_in classes (get_or documents i 0)) words → (old new : List Scored)
-        → (IsSelected k (record { score = score; id = get_or documents i 0 }) old new)
-        ⊎ ((new ≡ old) × IsFull k (record { score = score; id = get_or documents i 0 }) old)
-        → AreBest (IsScored (λ id. test id || has id (take i documents)) words classes) k old
-        → AreBest (IsScored (λ id. test id || has id (take (i + 1) documents)) words classes) k new
-    next_kept score adds_up old new done best = one_kept (λ x. test x || has x (take i documents)) (λ x. test x || has x (take (i + 1) documents)) words classes k
-        (λ x is. elim (or_cases (test x) (has x (take i documents)) is) [
-          | inl was ↦ or_first (test x) _ was
-          | inr before ↦ or_second (test x) _ (has_more x documents i lt ∙ or_first (has x (take i documents)) _ before)
-        ]) (record { score = score; id = id }) old new
-        (or_second (test id) _ (has_more id documents i lt ∙ or_second (has id (take i documents)) _ (eq-eqb id id refl))) adds_up
-        (λ x is. elim (or_cases (test x) (has x (take (i + 1) documents)) is) [
-          | inl was ↦ inl (or_first (test x) _ was)
-          | inr now ↦ elim (or_cases (has x (take i documents)) (eqb id x) (sym (has_more x documents i lt) ∙ now)) [
-            | inl before ↦ inl (or_second (test x) _ before)
-            | inr same ↦ inr (sym (eqb-true id x same))
-          ]
-        ]) new_id done best
+    pub one_passed : (id : ℕ) → this ≡ id → Step id
+    one_passed id same = subst Step same this_passed
 
 -- ---- one block of documents after the other
 

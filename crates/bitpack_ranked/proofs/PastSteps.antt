@@ -1,18 +1,19 @@
 -- The best stay so when more documents of a word are past: others cannot be among them, or there are none, or one is selected.
-use Rattle.std.proofs.Common.{◌≡◌, ℕ, ◌+◌, ◌-◌, ◌^◌, ◌<◌, ◌≤◌, ◌⊎◌, true, cond, List, ◌∷◌, ◌++◌, length, get_or, map, take, drop, refl, subst, sym, ap, ◌∙◌, inl, inr, arith}
+use Rattle.std.proofs.Common.{◌≡◌, ℕ, ◌+◌, ◌-◌, ◌<◌, ◌≤◌, ◌⊎◌, Bool, false, true, cond, leb, ltb, min, List, ◌∷◌, ◌++◌, length, get_or, map, take, drop, refl, subst, sym, ap, ◌∙◌, inl, inr, arith}
+use Rattle.std.specs.Prelude.{◌||◌, ◌&&◌}
 use Rattle.std.specs.List.{count_by, sum_by}
-use Rattle.std.proofs.lemmas.Bool.{cases_lt, le-ltb, lt-ltb}
+use Rattle.std.proofs.lemmas.Bool.{cases_lt, le-leb, le-ltb, leb-true, lt-ltb, ltb-true}
 use Rattle.std.proofs.lemmas.List.{take-map, take_rest}
 use Rattle.bitpack_ranked.specs.declared.found.Scored.{Scored}
-use Rattle.bitpack_ranked.specs.Ranked.{AreBest, IsHit, has_word, part_in, position_of}
+use Rattle.bitpack_ranked.specs.Ranked.{AreBest, IsHit, IsScored, has_word, part_in, position_of}
 use Rattle.bitpack_ranked.specs.Scores.{part_at}
 use Rattle.bitpack_ranked.specs.Terms.{IsWord, Word}
-use Rattle.bitpack_ranked.specs.inner.Selecting.{IsFull, IsSelected}
+use Rattle.bitpack_ranked.specs.inner.Selecting.{IsFull}
 use Rattle.bitpack_ranked.specs.inner.Walks.{IsPast, IsPastIn}
-use Rattle.bitpack_ranked.proofs.BestSteps.{best_none, best_same, best_selected, best_skipped, same_scored}
-use Rattle.bitpack_ranked.proofs.PositionLemmas.{id_at, position_at}
-use Rattle.bitpack_ranked.proofs.RankLaws.{rising-increasing}
-use Rattle.bitpack_ranked.proofs.WordSteps.{cond_le, enough_first, no_parts, split_words, sum_all, sum_more}
+use Rattle.bitpack_ranked.proofs.BestSteps.{best_none, best_same, best_skipped}
+use Rattle.bitpack_ranked.proofs.ManySteps.{or_cases, or_first, or_second}
+use Rattle.bitpack_ranked.proofs.PositionLemmas.{id_at}
+use Rattle.bitpack_ranked.proofs.WordSteps.{enough_first, no_parts, split_words, sum_all, sum_more}
 
 -- a hit that has none of the words before, and has the word at a position from one on that is below another
 pub record IsFresh (before : List Word) (word : Word) (after : List Word) (classes : List ℕ) (at_least p q : ℕ) (d : Scored) : Type 0 where
@@ -21,6 +22,35 @@ pub record IsFresh (before : List Word) (word : Word) (after : List Word) (class
   pub from : p ≤ position_of word.ids d.id
   pub upto : position_of word.ids d.id < q
   pub within : position_of word.ids d.id < length word.ids
+
+-- ---- both of two
+
+pub both_true : (a b : Bool) → (a && b) ≡ true → (a ≡ true) × (b ≡ true)
+both_true true b e = (refl, e)
+both_true false b e = absurd cc
+
+pub and_true : (a b : Bool) → a ≡ true → b ≡ true → (a && b) ≡ true
+and_true true b e f = f
+and_true false b e f = absurd cc
+
+pub and_with : (a b : Bool) → b ≡ true → (a && b) ≡ a
+and_with true b e = e
+and_with false b e = refl
+
+pub and_second : (a b : Bool) → (b ≡ true → a ≡ true) → (a && b) ≡ b
+and_second true b first = refl
+and_second false true first = first refl
+and_second false false first = refl
+
+pub and_false : (a b : Bool) → b ≡ false → (a && b) ≡ false
+and_false true b e = e
+and_false false b e = refl
+
+or_false : (a b : Bool) → a ≡ false → b ≡ false → (a || b) ≡ false
+or_false true b e f = absurd cc
+or_false false b e f = f
+
+-- ---- one word more or less far
 
 module _ (before : List Word) (word : Word) (after : List Word) (is : IsWord word) (classes : List ℕ) (at_least k : ℕ) where
   abbrev Past : ℕ → Scored → Type 0
@@ -76,29 +106,6 @@ module _ (before : List Word) (word : Word) (after : List Word) (is : IsWord wor
         inr (x, full, id, omega (arith, score, adds p q d fresh))
   ])
 
-  -- one document cannot be among them
-  pub past_one_full : (found : List Scored) (position class part rest : ℕ) (x : Scored) → get_or word.ids position 0 ≡ x.id
-      → part_at word.table (get_or word.counts position 0) class ≡ part → get_or classes x.id 0 ≡ class → sum_by (part_in classes x.id) after ≤ rest
-      → part + rest ≤ x.score → IsFull k x found → AreBest (Past position) k found → AreBest (Past (position + 1)) k found
-  past_one_full found position class part rest x id its at more le full best = past_full found position (position + 1) x (omega arith) below full best
-    where
-      its_part : part_at word.table (get_or word.counts position 0) (get_or classes x.id 0) ≡ part
-      its_part = ap (λ n. part_at word.table (get_or word.counts position 0) n) at ∙ its
-
-      here : IsBelow x position
-      here = rw id (omega arith, omega (arith, its_part, more, le))
-
-      below : (i : ℕ) → position ≤ i → i < position + 1 → i < length word.ids → IsBelow x i
-      below i from upto within =
-          let same : i ≡ position = omega (arith, from, upto) in
-          rw same here
-
-  pub past_none : (found : List Scored) (p q : ℕ) → p ≤ q → ((d : Scored) → Fresh p q d → ⊥) → AreBest (Past p) k found → AreBest (Past q) k found
-  past_none found p q le none best = best_same (Past p) (Past q) k found best (further p q le) (λ d was. elim (split p q d was) [
-    | inl one ↦ one
-    | inr fresh ↦ absurd (none d fresh)
-  ])
-
   -- all documents of the word
   pub past_whole : (found : List Scored) (p : ℕ) → length word.ids ≤ p → AreBest (Past p) k found → AreBest (Past (length word.ids)) k found
   past_whole found p le best =
@@ -110,74 +117,102 @@ module _ (before : List Word) (word : Word) (after : List Word) (is : IsWord wor
         ];
       }) (further (length word.ids) p le)
 
-  module _ (position : ℕ) (x : Scored) (lt : position < length word.ids) (id : get_or word.ids position 0 ≡ x.id) where
-    pub its_position : position_of word.ids x.id ≡ position
-    its_position = sym (ap (λ n. position_of word.ids n) id) ∙ position_at word.ids (rising-increasing 0 (2 ^ 32) word.ids is.set.rising) position lt
+  -- ---- the same, as tests of ids
 
-    -- a fresh document there is this one
-    pub its_id : (d : Scored) → Fresh position (position + 1) d → d.id ≡ x.id
-    its_id d fresh =
-        let at : position_of word.ids d.id ≡ position = omega (arith, fresh.from, fresh.upto) in
-        omega (arith, id_at word.ids d.id fresh.within, ap (λ n. get_or word.ids n 0) at, id)
+  abbrev pub its_words : List Word
+  its_words = before ++ word ∷ after
 
-    -- it has one of the words before, or too few words
-    pub some_before : 0 < count_by (has_word x.id) before → (d : Scored) → Fresh position (position + 1) d → ⊥
-    some_before some d fresh = omega (arith, some, fresh.none, ap (λ n. count_by (has_word n) before) (its_id d fresh))
+  -- whether an id is of a document that has none of the words before, and has the word at a position from one on that is below another
+  abbrev pub is_new : ℕ → ℕ → ℕ → Bool
+  is_new p q id = ltb (count_by (has_word id) before) 1 && (leb p (position_of word.ids id) && ltb (position_of word.ids id) (min q (length word.ids)))
 
-    pub few_words : count_by (has_word x.id) after + 1 < at_least → (d : Scored) → Fresh position (position + 1) d → ⊥
-    few_words few d fresh =
-        omega (
-          arith,
-          few,
-          fresh.none,
-          fresh.hit.enough,
-          sum_all (λ t. cond (has_word d.id t) 1 0) before word after,
-          cond_le (has_word d.id word),
-          ap (λ n. count_by (has_word n) after) (its_id d fresh),
-        )
+  abbrev pub has_enough : ℕ → Bool
+  has_enough id = leb at_least (count_by (has_word id) its_words)
 
-    pub past_with : (found new : List Scored) → x.id < 2 ^ 32
-        → x.score ≡ part_at word.table (get_or word.counts position 0) (get_or classes x.id 0) + sum_by (part_in classes x.id) after
-        → count_by (has_word x.id) before ≡ 0 → at_least ≤ count_by (has_word x.id) after + 1 → IsSelected k x found new → AreBest (Past position) k found
-        → AreBest (Past (position + 1)) k new
-    past_with found new small adds_up none enough selected best =
-        best_selected (Past position) (Past (position + 1)) k x found new best selected fresh (further position (position + 1) (omega arith)) this (λ d was. elim (split position (position + 1) d was) [
-          | inl one ↦ inl one
-          | inr new' ↦
-              let same = its_id d new' in
-              inr (same_scored d x same (new'.hit.adds_up ∙ ap (λ y. sum_by (part_in classes y) (before ++ word ∷ after)) same ∙ sym this.hit.adds_up))
-        ])
-      where
-        within : position_of word.ids x.id < length word.ids
-        within = omega (arith, its_position, lt)
+  abbrev pub is_fresh : ℕ → ℕ → ℕ → Bool
+  is_fresh p q id = has_enough id && is_new p q id
 
-        has_it : has_word x.id word ≡ true
-        has_it = lt-ltb (position_of word.ids x.id) (length word.ids) within
+  abbrev pub is_past : ℕ → ℕ → Bool
+  is_past p id = has_enough id && (ltb 0 (count_by (has_word id) before) || ltb (position_of word.ids id) (min p (length word.ids)))
 
-        one : ◌≡◌ {A = ℕ} (cond (has_word x.id word) 1 0) 1
-        one = rw has_it refl
+  pub new_from : (p q id : ℕ) → is_new p q id ≡ true
+      → (count_by (has_word id) before ≡ 0) × (p ≤ position_of word.ids id) × (position_of word.ids id < q) × (position_of word.ids id < length word.ids)
+  new_from p q id is =
+      let (none, rest) =
+      both_true (ltb (count_by (has_word id) before) 1) (leb p (position_of word.ids id) && ltb (position_of word.ids id) (min q (length word.ids))) is in
+      let (from, upto) = both_true (leb p (position_of word.ids id)) (ltb (position_of word.ids id) (min q (length word.ids))) rest in
+      let few = ltb-true (count_by (has_word id) before) 1 none in
+      let below = ltb-true (position_of word.ids id) (min q (length word.ids)) upto in (
+        omega (arith, few),
+        leb-true p (position_of word.ids id) from,
+        omega (arith, below),
+        omega (arith, below),
+      )
 
-        counted : get_or word.counts (position_of word.ids x.id) 0 ≡ get_or word.counts position 0
-        counted = ap (λ n. get_or word.counts n 0) its_position
+  pub is_new_at : (p q id : ℕ) → p ≤ position_of word.ids id → position_of word.ids id < q → position_of word.ids id < length word.ids
+      → is_new p q id ≡ ltb (count_by (has_word id) before) 1
+  is_new_at p q id from upto within =
+      and_with (ltb (count_by (has_word id) before) 1) (leb p (position_of word.ids id) && ltb (position_of word.ids id) (min q (length word.ids)))
+      (and_true (leb p (position_of word.ids id)) (ltb (position_of word.ids id) (min q (length word.ids))) (le-leb p (position_of word.ids id) from) (lt-ltb (position_of word.ids id) (min q (length word.ids)) (omega (arith, upto, within))))
 
-        part : part_in classes x.id word ≡ part_at word.table (get_or word.counts position 0) (get_or classes x.id 0)
-        part = part_here x.id within ∙ ap (λ n. part_at word.table n (get_or classes x.id 0)) counted
+  past_from : (p q : ℕ) → p ≤ q → (d : Scored) → IsScored (is_past p) its_words classes d → Past q d
+  past_from p q le d was =
+      let (enough, past) =
+      both_true (has_enough d.id) (ltb 0 (count_by (has_word d.id) before) || ltb (position_of word.ids d.id) (min p (length word.ids))) was.passes in record {
+        hit = record { enough = leb-true at_least (count_by (has_word d.id) its_words) enough; adds_up = was.adds_up };
+        past = elim (or_cases (ltb 0 (count_by (has_word d.id) before)) (ltb (position_of word.ids d.id) (min p (length word.ids))) past) [
+          | inl some ↦ inl (ltb-true 0 (count_by (has_word d.id) before) some)
+          | inr here ↦
+              let below = ltb-true (position_of word.ids d.id) (min p (length word.ids)) here in
+              inr (omega (arith, below, le), omega (arith, below))
+        ];
+      }
 
-        this : Past (position + 1) x
-        this = record {
-          hit = record {
-            small = small;
-            enough = omega (arith, enough, sum_all (λ t. cond (has_word x.id t) 1 0) before word after, one, none);
-            adds_up = omega (arith, adds_up, part, sum_all (part_in classes x.id) before word after, no_parts classes x.id before none);
-          };
-          past = inr (omega (arith, its_position), within);
-        }
+  past_test : (p : ℕ) (d : Scored) → Past p d → is_past p d.id ≡ true
+  past_test p d was = and_true (has_enough d.id) (ltb 0 (count_by (has_word d.id) before) || ltb (position_of word.ids d.id) (min p (length word.ids))) (le-leb at_least (count_by (has_word d.id) its_words) was.hit.enough) (elim was.past [
+    | inl some ↦ or_first (ltb 0 (count_by (has_word d.id) before)) _ (lt-ltb 0 (count_by (has_word d.id) before) some)
+    | inr here ↦
+        or_second (ltb 0 (count_by (has_word d.id) before)) _ (lt-ltb (position_of word.ids d.id) (min p (length word.ids)) (omega (arith, here.0, here.1)))
+  ])
 
-        fresh : (d : Scored) → Past position d → d.id ≡ x.id → ⊥
-        fresh d was same = elim was.past [
-          | inl some ↦ omega (arith, some, ap (λ n. count_by (has_word n) before) same, none)
-          | inr here ↦ omega (arith, here.0, ap (λ n. position_of word.ids n) same, its_position)
-        ]
+  pub to_tests : (found : List Scored) (p : ℕ) → AreBest (Past p) k found → AreBest (IsScored (is_past p) its_words classes) k found
+  to_tests found p best = best_same (Past p) (IsScored (is_past p) its_words classes) k found best
+      (λ d was. record { passes = past_test p d was; adds_up = was.hit.adds_up }) (past_from p p (omega arith))
+
+  pub from_tests : (found : List Scored) (p q : ℕ) → p ≤ q → AreBest (IsScored (λ id. is_past p id || is_fresh p q id) its_words classes) k found → AreBest (Past q) k found
+  from_tests found p q le best = best_same (IsScored (λ id. is_past p id || is_fresh p q id) its_words classes) (Past q) k found best
+      (λ d was. elim (or_cases (is_past p d.id) (is_fresh p q d.id) was.passes) [
+        | inl past ↦ past_from p q le d (record { passes = past; adds_up = was.adds_up })
+        | inr new ↦
+            let (enough, rest) = both_true (has_enough d.id) (is_new p q d.id) new in
+            let (none, from, upto, within) = new_from p q d.id rest in record {
+              hit = record { enough = leb-true at_least (count_by (has_word d.id) its_words) enough; adds_up = was.adds_up };
+              past = inr (upto, within);
+            }
+      ])
+      (λ d was. record {
+        passes = elim (split p q d was) [
+          | inl past ↦ or_first (is_past p d.id) _ (past_test p d past)
+          | inr new ↦ or_second (is_past p d.id) _ (and_true (has_enough d.id) (is_new p q d.id) (le-leb at_least (count_by (has_word d.id) its_words) new.hit.enough)
+              (is_new_at p q d.id new.from new.upto new.within ∙ lt-ltb (count_by (has_word d.id) before) 1 (omega (arith, new.none))))
+        ];
+        adds_up = was.hit.adds_up;
+      })
+
+  pub fresh_not_past : (p q id : ℕ) → is_fresh p q id ≡ true → is_past p id ≡ false
+  fresh_not_past p q id is =
+      let (enough, rest) = both_true (has_enough id) (is_new p q id) is in
+      let (none, from, upto, within) = new_from p q id rest in
+      and_false (has_enough id) (ltb 0 (count_by (has_word id) before) || ltb (position_of word.ids id) (min p (length word.ids)))
+      (or_false (ltb 0 (count_by (has_word id) before)) (ltb (position_of word.ids id) (min p (length word.ids))) (le-ltb 0 (count_by (has_word id) before) (omega (arith, none)))
+      (le-ltb (position_of word.ids id) (min p (length word.ids)) (omega (arith, from))))
+
+  -- it has one word more than of those after
+  pub count_new : (p q id : ℕ) → is_new p q id ≡ true → count_by (has_word id) its_words ≡ 1 + count_by (has_word id) after
+  count_new p q id is =
+      let (none, from, upto, within) = new_from p q id is in
+      let one : ◌≡◌ {A = ℕ} (cond (has_word id word) 1 0) 1 = rw (lt-ltb (position_of word.ids id) (length word.ids) within) refl in
+      omega (arith, none, one, sum_all (λ t. cond (has_word id t) 1 0) before word after)
 
 -- ---- the words of a query, one after the other
 

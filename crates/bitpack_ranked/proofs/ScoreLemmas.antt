@@ -1,7 +1,7 @@
 -- No part is above that of a count that is not less, in the first class.
-use Rattle.std.proofs.Common.{◌≡◌, ℕ, zero, suc, ◌+◌, ◌-◌, ◌*◌, ◌/◌, ◌%◌, ◌<◌, ◌≤◌, min, List, length, get_or, sym, ap, inl, inr, arith}
+use Rattle.std.proofs.Common.{◌≡◌, ℕ, zero, suc, ◌+◌, ◌-◌, ◌*◌, ◌/◌, ◌%◌, ◌<◌, ◌≤◌, min, List, length, get_or, ap, arith}
 use Rattle.bitpack_ranked.specs.Scores.{IsTable, part_at}
-use Rattle.bitpack_ranked.specs.inner.Walks.{Covers}
+use Rattle.bitpack_ranked.specs.inner.Walks.{greatest_part}
 
 module _ (table : List ℕ) (is : IsTable table) where
   climb : (i k : ℕ) → i + 256 * k < length table → get_or table i 0 ≤ get_or table (i + 256 * k) 0
@@ -42,21 +42,12 @@ module _ (table : List ℕ) (is : IsTable table) where
       let some : 1 ≤ n = omega (arith, is.some) in
       up (min count (n - 1)) (min most (n - 1)) (min class 255) (omega arith) (omega arith) (omega arith)
 
-  -- the last row has the greatest part of each class, and its first is the greatest of all
-  pub part_last : (count class other : ℕ) → Covers class other → part_at table count other ≤ get_or table (length table - 256 + min class 255) 0
-  part_last count class other covers =
+  -- the first part of the last row is the greatest of all
+  pub part_greatest : (count class : ℕ) → part_at table count class ≤ greatest_part table
+  part_greatest count class =
       let n : ℕ = length table / 256 in
       let all : 256 * n ≡ length table = omega (arith, is.whole) in
       let some : 1 ≤ n = omega (arith, is.some) in
-      let at : 256 * (n - 1) + min class 255 ≡ length table - 256 + min class 255 = omega arith in
-      elim covers [
-        | inl same ↦
-            let step = up (min count (n - 1)) (n - 1) (min other 255) (omega arith) (omega arith) (omega arith) in
-            let its : min other 255 ≡ min class 255 = ap (λ m. min m 255) (sym same) in
-            omega (arith, step, ap (λ m. get_or table (256 * (n - 1) + m) 0) its, ap (λ m. get_or table m 0) at)
-        | inr none ↦
-            let step = row_most (min count (n - 1)) (n - 1) (min other 255) (omega arith) (omega arith) (omega arith) in
-            let first : min class 255 ≡ 0 = omega (arith, none) in
-            let row : 256 * (n - 1) + min class 255 ≡ 256 * (n - 1) = omega (arith, first) in
-            omega (arith, step, ap (λ m. get_or table m 0) row, ap (λ m. get_or table m 0) at)
-      ]
+      let step = row_most (min count (n - 1)) (n - 1) (min class 255) (omega arith) (omega arith) (omega arith) in
+      let at : 256 * (n - 1) ≡ length table - 256 = omega arith in
+      omega (arith, step, ap (λ m. get_or table m 0) at)

@@ -1,5 +1,5 @@
 -- The best documents of a query by a score that adds up what each of its words is worth.
-use Rattle.std.specs.Prelude.{◌≡◌, ℕ, ◌^◌, ◌<◌, ◌≤◌, ◌⊎◌, ◌==◌, Bool, true, nat_lt, if◌then◌else◌, List, length, slice_index, slice_index_or, All, Contains}
+use Rattle.std.specs.Prelude.{◌≡◌, ℕ, ◌<◌, ◌≤◌, ◌⊎◌, ◌==◌, Bool, true, nat_lt, if◌then◌else◌, List, length, slice_index, slice_index_or, All, Contains}
 use Rattle.std.specs.List.{count_by, position_or_len, sum_by}
 use Rattle.bitpack_sets.specs.Reads.{has}
 use Rattle.bitpack_ranked.specs.declared.found.Scored.{Scored}
@@ -23,7 +23,6 @@ part_in classes id word =
 
 -- a document that has at least a number of the words, with its score
 pub record IsHit (words : List Word) (classes : List ℕ) (at_least : ℕ) (document : Scored) : Type 0 where
-  pub small : document.id < 2 ^ 32
   pub enough : at_least ≤ count_by (has_word document.id) words
   pub adds_up : document.score ≡ sum_by (part_in classes document.id) words
 

@@ -1,3 +1,4 @@
 -- What inner contracts say.
+pub mod Candidates
 pub mod Selecting
 pub mod Walks

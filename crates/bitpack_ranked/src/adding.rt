@@ -1,34 +1,21 @@
-//! Adds what words are worth to the scores of up to 128 increasing documents.
+//! Adds what a word is worth to the scores of up to 128 increasing documents.
 
-ghost use Rattle.std.specs.Prelude.{◌≡◌, ◌≢◌, ℕ, ◌⊎◌, ◌+◌, ◌*◌, ◌/◌, ◌^◌, ◌<◌, ◌≤◌, length, map, slice_index};
-ghost use Rattle.std.specs.List.{sum_by};
+ghost use Rattle.std.specs.Prelude.{◌≡◌, ◌≢◌, ℕ, ◌⊎◌, ◌+◌, ◌*◌, ◌/◌, ◌^◌, ◌<◌, ◌≤◌, List, if◌then◌else◌, length, slice_index};
+ghost use Rattle.std.specs.List.{filter};
 ghost use Rattle.std.specs.List.Sorted.{IsStrictlyIncreasing};
-ghost use Rattle.bitpack_sets.specs.Reads.{rank};
-ghost use Rattle.bitpack_ranked.specs.Ranked.{part_in};
+ghost use Rattle.bitpack_sets.specs.Reads.{has, rank};
+ghost use Rattle.bitpack_ranked.specs.Ranked.{has_word, part_in};
 ghost use Rattle.bitpack_ranked.specs.Scores.{part_at};
 ghost use Rattle.bitpack_ranked.specs.inner.Walks.{Adds, IsAfter, IsUnpacked};
 
 use crate::as_term::AsTerm;
+use crate::others::{copy_common, is_next};
 use crate::ranking::class_of;
 use crate::walk::{BLOCK, Walk};
-use crate::words::look_up;
-
-/// Adds the parts of all words.
-pub(crate) fn add_all<T: AsTerm>(terms: &[T], ids: &[u32], classes: &[u8], scores: &mut [u64])
-    requires few { length terms.now ≤ 2 ^ 31 }
-    requires increasing { IsStrictlyIncreasing ids.now }
-    requires room { length ids.now ≤ length scores.old }
-    requires none { (k : ℕ) → k < length ids.now → slice_index scores.old k ≡ 0 }
-    ensures { (k : ℕ) → k < length ids.now → slice_index scores.new k ≡ sum_by (part_in classes.now (slice_index ids.now k)) (map T.its_word terms.now) }
-{
-    let mut walk = Walk::new();
-    for index in 0..terms.len() {
-        add_word(&terms[index], &mut walk, ids, classes, scores);
-    }
-}
 
 /// Adds the parts of a word: of each document on its own if they are far apart, and else block by block.
-fn add_word<T: AsTerm>(term: &T, walk: &mut Walk, ids: &[u32], classes: &[u8], scores: &mut [u64])
+pub(crate) fn add_word<T: AsTerm>(term: &T, ids: &[u32], classes: &[u8], scores: &mut [u64])
+    requires short { length ids.now ≤ 128 }
     requires increasing { IsStrictlyIncreasing ids.now }
     requires room { length ids.now ≤ length scores.old }
     requires small { (k : ℕ) → k < length ids.now → slice_index scores.old k < 2 ^ 63 }
@@ -42,27 +29,55 @@ fn add_word<T: AsTerm>(term: &T, walk: &mut Walk, ids: &[u32], classes: &[u8], s
     if end.saturating_sub(first) > ids.len() / 2 + 1 {
         add_each(term, ids, classes, scores);
     } else {
-        add_blocks(term, walk, first, end, ids, classes, scores);
+        add_blocks(term, first, end, ids, classes, scores);
     }
 }
 
-/// Adds the part of each document on its own.
+/// Adds the part of each document that has the word.
 fn add_each<T: AsTerm>(term: &T, ids: &[u32], classes: &[u8], scores: &mut [u64])
+    requires short { length ids.now ≤ 128 }
     requires room { length ids.now ≤ length scores.old }
     requires small { (k : ℕ) → k < length ids.now → slice_index scores.old k < 2 ^ 63 }
     ensures { Adds (T.its_word term.now) classes.now ids.now scores.old scores.new }
 {
+    let mut room = [0; 128];
+    let common = &mut room[..ids.len()];
+    let count = copy_common(term, ids, common);
+    add_common(term, &common[..count], ids, classes, scores);
+}
+
+/// Adds the part of each document that is among those with the word, which are in the same order.
+fn add_common<T: AsTerm>(term: &T, common: &[u32], ids: &[u32], classes: &[u8], scores: &mut [u64])
+    requires common { common.now ≡ filter (λ x. has x (T.its_word term.now).ids) ids.now }
+    requires room { length ids.now ≤ length scores.old }
+    requires small { (k : ℕ) → k < length ids.now → slice_index scores.old k < 2 ^ 63 }
+    ensures { Adds (T.its_word term.now) classes.now ids.now scores.old scores.new }
+{
+    let mut next = 0;
     for index in 0..ids.len() {
         let id = ids[index];
-        let (part, _) = look_up(term, id, class_of(classes, id));
-        scores[index] += part as u64;
+        let more = is_next(common, next, id);
+        scores[index] += part_if(term, more, id, class_of(classes, id)) as u64;
+        next += more;
     }
+}
+
+/// The part of a document of a class if a number is 1, else 0.
+#[inline(always)]
+fn part_if<T: AsTerm>(term: &T, more: usize, id: u32, class: u32) -> u32
+    ensures { (classes : List ℕ) → slice_index classes id ≡ class → more ≡ (if has_word id (T.its_word term.now) then 1 else 0)
+        → result ≡ part_in classes id (T.its_word term.now) }
+{
+    if more == 0 {
+        return 0;
+    }
+    let count = term.counts().get(term.ids().rank(id)).unwrap_or(0);
+    term.parts().part(count, class)
 }
 
 /// Adds the parts of blocks, between which all documents are.
 fn add_blocks<T: AsTerm>(
     term: &T,
-    walk: &mut Walk,
     first: usize,
     end: usize,
     ids: &[u32],
@@ -76,12 +91,13 @@ fn add_blocks<T: AsTerm>(
     requires upto { (k : ℕ) → k < length ids.now → rank (slice_index ids.now k) (T.its_word term.now).ids < 128 * end }
     ensures { Adds (T.its_word term.now) classes.now ids.now scores.old scores.new }
 {
+    let mut walk = Walk::new();
     let blocks = term.ids().len().div_ceil(BLOCK);
     let mut next = 0;
     for block in first..end.min(blocks) {
         walk.unpack_counts(term, block);
         walk.unpack_ids(term, block);
-        next = add_block(term, walk, block, ids, next, classes, scores);
+        next = add_block(term, &walk, block, ids, next, classes, scores);
     }
 }
 

@@ -1,17 +1,15 @@
 //! The best of given documents, of up to 128 at once.
 
-ghost use Rattle.std.specs.Prelude.{◌≡◌, ℕ, ◌+◌, [], ◌∷◌, ◌++◌, Bool, false, ◌||◌, ◌⊎◌, ◌^◌, ◌<◌, ◌≤◌, Err, IfOk, IsOk, MatchOption, OnErr, length, map, slice_index, take, true};
-ghost use Rattle.std.specs.List.{sum_by};
+ghost use Rattle.std.specs.Prelude.{◌≡◌, ℕ, Bool, false, ◌||◌, ◌^◌, ◌<◌, ◌≤◌, Err, IfOk, IsOk, MatchOption, OnErr, length, map, slice_index, take, true};
 ghost use Rattle.std.specs.List.Sorted.{IsStrictlyIncreasing};
 ghost use Rattle.bitpack_sets.specs.Reads.{has};
 ghost use Rattle.bitpack_sets.specs.Slices.{first_fall};
-ghost use Rattle.bitpack_ranked.specs.Ranked.{AreBest, IsAmong, IsScored, part_in};
-ghost use Rattle.bitpack_ranked.specs.inner.Selecting.{AreSkipped, IsFull, IsSelected};
+ghost use Rattle.bitpack_ranked.specs.Ranked.{AreBest, IsAmong, IsScored};
 
-use crate::adding::add_all;
 use crate::as_term::AsTerm;
 use crate::bounds::bound_all;
-use crate::found::{Scored, is_full, select};
+use crate::candidates::Candidates;
+use crate::found::Scored;
 use crate::walk::BLOCK;
 use bitpack_sets::first_unsorted;
 
@@ -78,91 +76,25 @@ pub(crate) fn pass_some<T: AsTerm>(
         → AreBest (IsScored test (map T.its_word terms.now) classes.now) (length found.old) (take len found.old)
         → AreBest (IsScored (λ id. test id || has id documents.now) (map T.its_word terms.now) classes.now) (length found.old) (take result found.new) }
 {
-    let mut wanted = [0; 128];
-    let count = copy_wanted(documents, terms, classes, found, len, &mut wanted);
-    keep_all(&wanted[..count], terms, classes, found, len)
-}
-
-/// Copies the documents that can be among the best. Returns how many these are.
-fn copy_wanted<T: AsTerm>(
-    documents: &[u32],
-    terms: &[T],
-    classes: &[u8],
-    found: &[Scored],
-    len: usize,
-    wanted: &mut [u32],
-) -> usize
-    requires few { length terms.now ≤ 2 ^ 31 }
-    requires short { length documents.now ≤ 128 }
-    requires room { length wanted.old ≡ 128 }
-    requires increasing { IsStrictlyIncreasing documents.now }
-    requires len { len ≤ length found.now }
-    ensures within { result ≤ length documents.now }
-    ensures skipped { AreSkipped (map T.its_word terms.now) classes.now documents.now (take result wanted.new) (length found.now) (take len found.now) }
-{
+    let mut candidates = copy(documents);
     let mut bounds = [0; 128];
     bound_all(terms, documents, classes, &mut bounds);
-    let mut count = 0;
-    for index in 0..documents.len() {
-        let id = documents[index];
-        let score = bounds[index];
-        let full = is_full(found, len, Scored { score, id });
-        count = push_wanted(wanted, count, id, full);
-    }
-    count
+    candidates.retain_bounded(&bounds, found, len);
+    candidates.rank(&terms[..0], terms, classes, found, len)
 }
 
-/// Puts a document at the end of the first `count`, unless no document with its id and score is among the best. Returns how many these are.
-#[inline(always)]
-fn push_wanted(wanted: &mut [u32], count: usize, id: u32, full: bool) -> usize
-    requires { count < length wanted.old }
-    ensures full { full ≡ true → (result ≡ count) × (take count wanted.new ≡ take count wanted.old) }
-    ensures wanted { full ≡ false → (result ≡ count + 1) × (take (count + 1) wanted.new ≡ take count wanted.old ++ id ∷ []) }
+/// Documents as candidates, of whose scores nothing is added up.
+fn copy(documents: &[u32]) -> Candidates
+    requires { length documents.now ≤ 128 }
+    ensures len { result.len ≡ length documents.now }
+    ensures ids { take result.len result.ids ≡ documents.now }
+    ensures scores { (k : ℕ) → k < result.len → slice_index result.scores k ≡ 0 }
 {
-    wanted[count] = id;
-    if full { count } else { count + 1 }
-}
-
-/// Puts up to 128 more documents among the best, by their scores.
-fn keep_all<T: AsTerm>(
-    documents: &[u32],
-    terms: &[T],
-    classes: &[u8],
-    found: &mut [Scored],
-    len: usize,
-) -> usize
-    requires few { length terms.now ≤ 2 ^ 31 }
-    requires short { length documents.now ≤ 128 }
-    requires increasing { IsStrictlyIncreasing documents.now }
-    requires len { len ≤ length found.old }
-    ensures len { result ≤ length found.old }
-    ensures best { (test : ℕ → Bool) → ((id : ℕ) → has id documents.now ≡ true → test id ≡ false)
-        → AreBest (IsScored test (map T.its_word terms.now) classes.now) (length found.old) (take len found.old)
-        → AreBest (IsScored (λ id. test id || has id documents.now) (map T.its_word terms.now) classes.now) (length found.old) (take result found.new) }
-{
-    let mut scores = [0; 128];
-    add_all(terms, documents, classes, &mut scores);
-    let mut len = len;
-    for index in 0..documents.len() {
-        let document = Scored {
-            score: scores[index],
-            id: documents[index],
-        };
-        len = keep_better(found, len, document);
+    let mut ids = [0; 128];
+    ids[..documents.len()].copy_from_slice(documents);
+    Candidates {
+        ids,
+        scores: [0; 128],
+        len: documents.len(),
     }
-    len
-}
-
-/// Puts a document among the best, if it is one of them.
-#[inline(always)]
-fn keep_better(found: &mut [Scored], len: usize, document: Scored) -> usize
-    requires len { len ≤ length found.old }
-    ensures len { result ≤ length found.old }
-    ensures selected { (IsSelected (length found.old) document (take len found.old) (take result found.new))
-        ⊎ ((take result found.new ≡ take len found.old) × IsFull (length found.old) document (take len found.old)) }
-{
-    if is_full(found, len, document) {
-        return len;
-    }
-    select(found, len, document)
 }

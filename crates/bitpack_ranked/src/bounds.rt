@@ -52,7 +52,7 @@ fn most_part<T: AsTerm>(term: &T, most: Option<u32>, class: u32) -> u32
 {
     match most {
         Some(count) => term.parts().part(count, class),
-        None => term.parts().most_of_class(class),
+        None => term.parts().greatest(),
     }
 }
 

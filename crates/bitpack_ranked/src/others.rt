@@ -37,7 +37,7 @@ fn add_word<T: AsTerm>(term: &T, ids: &[u32], counts: &mut [usize])
 }
 
 /// Writes the ids that have the word. Returns how many these are.
-fn copy_common<T: AsTerm>(term: &T, ids: &[u32], out: &mut [u32]) -> usize
+pub(crate) fn copy_common<T: AsTerm>(term: &T, ids: &[u32], out: &mut [u32]) -> usize
     requires { length out.old ≡ length ids.now }
     ensures within { result ≤ length out.new }
     ensures ids { take result out.new ≡ filter (λ x. has x (T.its_word term.now).ids) ids.now }
@@ -63,7 +63,7 @@ fn add_common(common: &[u32], ids: &[u32], counts: &mut [usize])
 
 /// 1 if the id is at an index, else 0.
 #[inline(always)]
-fn is_next(common: &[u32], next: usize, id: u32) -> usize
+pub(crate) fn is_next(common: &[u32], next: usize, id: u32) -> usize
     ensures small { result ≤ 1 }
     ensures there { result ≡ 1 → (next < length common.now) × (slice_index common.now next ≡ id) }
     ensures lacking { result ≡ 0 → next < length common.now → slice_index common.now next ≢ id }
@@ -72,14 +72,5 @@ fn is_next(common: &[u32], next: usize, id: u32) -> usize
         1
     } else {
         0
-    }
-}
-
-/// Sets all numbers to one.
-pub(crate) fn fill(counts: &mut [usize], value: usize)
-    ensures { (k : ℕ) → k < length counts.new → slice_index counts.new k ≡ value }
-{
-    for index in 0..counts.len() {
-        counts[index] = value;
     }
 }

@@ -2,7 +2,7 @@
 
 ghost use Rattle.std.specs.Prelude.{◌≡◌, ◌↔◌, ◌≤◌, ℕ, IsTrue, IfSome, None};
 ghost use Rattle.bitpack_ranked.specs.Scores.{IsTable, part_at};
-ghost use Rattle.bitpack_ranked.specs.inner.Walks.{Covers};
+ghost use Rattle.bitpack_ranked.specs.inner.Walks.{greatest_part};
 
 /// How many classes of lengths there are.
 pub const CLASSES: usize = 256;
@@ -56,12 +56,12 @@ impl<'a> Parts<'a> {
         self.part(count, 0)
     }
 
-    /// A bound of the parts of a class. The one of class 0 is a bound of all parts.
+    /// A bound of all parts.
     #[inline(always)]
-    pub(crate) fn most_of_class(&self, class: u32) -> u32
-        ensures { (count other : ℕ) → Covers class other → part_at self.now.table.now count other ≤ result }
+    pub(crate) fn greatest(&self) -> u32
+        ensures { result ≡ greatest_part self.now.table.now }
     {
-        self.table[self.table.len() - CLASSES + (class as usize).min(CLASSES - 1)]
+        self.table[self.table.len() - CLASSES]
     }
 }
 

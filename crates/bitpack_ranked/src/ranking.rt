@@ -1,18 +1,18 @@
 //! The best documents of a query. Blocks of counts that cannot hold one of them stay packed.
 
-ghost use Rattle.std.specs.Prelude.{◌≡◌, ℕ, ◌+◌, ◌*◌, ◌^◌, ◌<◌, ◌≤◌, length, map, max, slice_index, take};
+ghost use Rattle.std.specs.Prelude.{◌≡◌, ℕ, ◌+◌, ◌-◌, ◌*◌, ◌^◌, ◌<◌, ◌≤◌, length, map, max, slice_index, take};
 ghost use Rattle.std.specs.List.{count_by};
 ghost use Rattle.bitpack_ranked.specs.Ranked.{AreBest, IsHit, has_word};
-ghost use Rattle.bitpack_ranked.specs.inner.Walks.{HasPart, HasScore, IsAt, IsLow, IsPastIn, IsRest, IsUnpacked};
+ghost use Rattle.bitpack_ranked.specs.Scores.{part_at};
+ghost use Rattle.bitpack_ranked.specs.inner.Candidates.{AreLeft};
+ghost use Rattle.bitpack_ranked.specs.inner.Walks.{IsLow, IsPastIn, IsUnpacked, most_rest};
 
 use crate::as_term::AsTerm;
-use crate::found::{Scored, is_full, select};
-use crate::others::{count_others, fill};
+use crate::candidates::Candidates;
+use crate::found::{Scored, is_full};
+use crate::others::count_others;
 use crate::walk::{BLOCK, Walk, most_of};
-use crate::words::{count_words, rest_of, score};
-
-/// If fewer documents of a block have to be looked up, their ids are not all looked for at once.
-const MANY: usize = 4;
+use crate::words::rest_of;
 
 /// Writes the best of the documents that have at least `at_least` of the words, the best of them first, as many as there is room for. Returns
 /// how many these are. A scan of all would find the same.
@@ -85,7 +85,7 @@ impl<'a, T: AsTerm> Turn<'a, T> {
             self.now.classes.now self.now.at_least (length (T.its_word self.now.term.now).ids)) (length found.old) (take result found.new) }
     {
         walk.start();
-        let rest = rest_of(self.after, 0);
+        let rest = rest_of(self.after);
         let mut len = len;
         for block in 0..self.term.ids().len().div_ceil(BLOCK) {
             len = self.pass_block(walk, block, rest, found, len);
@@ -104,8 +104,8 @@ impl<'a, T: AsTerm> Turn<'a, T> {
     ) -> usize
         requires within { 128 * block < length (T.its_word self.now.term.now).ids }
         requires low { IsLow walk.old.low (T.its_word self.now.term.now) block }
-        requires rest { IsRest rest (map T.its_word self.now.after.now) 0 }
-        requires small { rest ≤ 2 ^ 63 }
+        requires rest { rest ≡ most_rest (map T.its_word self.now.after.now) }
+        requires small { rest ≤ (2 ^ 32 - 1) * 2 ^ 31 }
         requires len { len ≤ length found.old }
         requires best { AreBest (IsPastIn (map T.its_word self.now.before.now) (T.its_word self.now.term.now) (map T.its_word self.now.after.now)
             self.now.classes.now self.now.at_least (128 * block)) (length found.old) (take len found.old) }
@@ -137,8 +137,8 @@ impl<'a, T: AsTerm> Turn<'a, T> {
         len: usize,
     ) -> usize
         requires block { IsUnpacked (T.its_word self.now.term.now) block walk.now }
-        requires rest { IsRest rest (map T.its_word self.now.after.now) 0 }
-        requires small { rest ≤ 2 ^ 63 }
+        requires rest { rest ≡ most_rest (map T.its_word self.now.after.now) }
+        requires small { rest ≤ (2 ^ 32 - 1) * 2 ^ 31 }
         requires len { len ≤ length found.old }
         requires best { AreBest (IsPastIn (map T.its_word self.now.before.now) (T.its_word self.now.term.now) (map T.its_word self.now.after.now)
             self.now.classes.now self.now.at_least (128 * block)) (length found.old) (take len found.old) }
@@ -146,165 +146,50 @@ impl<'a, T: AsTerm> Turn<'a, T> {
         ensures best { AreBest (IsPastIn (map T.its_word self.now.before.now) (T.its_word self.now.term.now) (map T.its_word self.now.after.now)
             self.now.classes.now self.now.at_least (128 * (block + 1))) (length found.old) (take result found.new) }
     {
-        let mut others = [0; 128];
-        self.find_others(walk, rest, found, len, &mut others);
-        let mut len = len;
-        for index in 0..walk.len() {
-            let (id, count) = walk.at(index);
-            len = self.pass_document(id, count, rest, others[index], found, len);
-        }
-        len
+        let mut candidates = self.candidates(walk);
+        candidates.retain_best(rest, found, len);
+        self.retain_enough(&mut candidates);
+        candidates.rank(self.before, self.after, self.classes, found, len)
     }
 
-    /// Writes of each document of an unpacked block how many of the words after it has at most.
-    fn find_others(
-        &self,
-        walk: &Walk,
-        rest: u64,
-        found: &[Scored],
-        len: usize,
-        others: &mut [usize],
-    )
-        requires block { walk.now.len ≤ 128 }
-        requires room { length others.old ≡ 128 }
-        requires small { rest ≤ 2 ^ 63 }
-        requires len { len ≤ length found.now }
-        ensures { (k : ℕ) → k < walk.now.len
-            → count_by (has_word (slice_index walk.now.ids k)) (map T.its_word self.now.after.now) ≤ slice_index others.new k }
+    /// All documents of an unpacked block, with what the word adds to their scores.
+    fn candidates(&self, walk: &Walk) -> Candidates
+        requires { walk.now.len ≤ 128 }
+        ensures len { result.len ≡ walk.now.len }
+        ensures ids { (k : ℕ) → k < walk.now.len → slice_index result.ids k ≡ slice_index walk.now.ids k }
+        ensures scores { (k : ℕ) → k < walk.now.len → slice_index result.scores k
+            ≡ part_at (T.its_word self.now.term.now).table (slice_index walk.now.counts k) (slice_index self.now.classes.now (slice_index walk.now.ids k)) }
+        ensures small { (k : ℕ) → k < walk.now.len → slice_index result.scores k < 2 ^ 32 }
     {
-        if self.count_wanted(walk, rest, found, len) < MANY {
-            let words = self.after.len();
-            fill(others, words);
+        let mut ids = [0; 128];
+        let mut scores = [0; 128];
+        for index in 0..walk.len() {
+            let (id, count) = walk.at(index);
+            ids[index] = id;
+            scores[index] = self.term.parts().part(count, class_of(self.classes, id)) as u64;
+        }
+        Candidates {
+            ids,
+            scores,
+            len: walk.len(),
+        }
+    }
+
+    /// Retains the candidates that have enough of the words after.
+    fn retain_enough(&self, candidates: &mut Candidates)
+        requires { candidates.old.len ≤ 128 }
+        ensures few { candidates.new.len ≤ candidates.old.len }
+        ensures retained { AreLeft (λ k. count_by (has_word (slice_index candidates.old.ids k)) (map T.its_word self.now.after.now) + 1 < self.now.at_least)
+            candidates.old candidates.new }
+        ensures enough { (j : ℕ) → j < candidates.new.len
+            → self.now.at_least ≤ count_by (has_word (slice_index candidates.new.ids j)) (map T.its_word self.now.after.now) + 1 }
+    {
+        if self.at_least == 1 {
             return;
         }
-        fill(others, 0);
-        count_others(self.after, walk.ids(), others);
-    }
-
-    /// How many documents of an unpacked block have to be looked up. Only the time depends on it.
-    fn count_wanted(&self, walk: &Walk, rest: u64, found: &[Scored], len: usize) -> usize
-        requires block { walk.now.len ≤ 128 }
-        requires small { rest ≤ 2 ^ 63 }
-        requires len { len ≤ length found.now }
-    {
-        let mut wanted: usize = 0;
-        for index in 0..walk.len() {
-            let (id, count) = walk.at(index);
-            let score = self.term.parts().part(count, class_of(self.classes, id)) as u64 + rest;
-            wanted = wanted.wrapping_add(!is_full(found, len, Scored { score, id }) as usize);
-        }
-        wanted
-    }
-
-    /// Puts a document among the best, unless its part and what the words after can add tell that it is not there.
-    #[inline(always)]
-    fn pass_document(
-        &self,
-        id: u32,
-        count: u32,
-        rest: u64,
-        most: usize,
-        found: &mut [Scored],
-        len: usize,
-    ) -> usize
-        requires rest { IsRest rest (map T.its_word self.now.after.now) 0 }
-        requires small { rest ≤ 2 ^ 63 }
-        requires others { count_by (has_word id) (map T.its_word self.now.after.now) ≤ most }
-        requires len { len ≤ length found.old }
-        ensures len { result ≤ length found.old }
-        ensures best { (position : ℕ) → IsAt (T.its_word self.now.term.now) position id count
-            → AreBest (IsPastIn (map T.its_word self.now.before.now) (T.its_word self.now.term.now) (map T.its_word self.now.after.now)
-            self.now.classes.now self.now.at_least position) (length found.old) (take len found.old)
-            → AreBest (IsPastIn (map T.its_word self.now.before.now) (T.its_word self.now.term.now) (map T.its_word self.now.after.now)
-            self.now.classes.now self.now.at_least (position + 1)) (length found.old) (take result found.new) }
-    {
-        let class = class_of(self.classes, id);
-        let part = self.term.parts().part(count, class) as u64;
-        if is_full(
-            found,
-            len,
-            Scored {
-                score: part + rest,
-                id,
-            },
-        ) {
-            return len;
-        }
-        self.take_document(id, class, part, most, found, len)
-    }
-
-    /// Puts a document among the best, if it is one of them, has enough of the words, and none of those before.
-    fn take_document(
-        &self,
-        id: u32,
-        class: u32,
-        part: u64,
-        most: usize,
-        found: &mut [Scored],
-        len: usize,
-    ) -> usize
-        requires class { slice_index self.now.classes.now id ≡ class }
-        requires small { part < 2 ^ 32 }
-        requires others { count_by (has_word id) (map T.its_word self.now.after.now) ≤ most }
-        requires len { len ≤ length found.old }
-        ensures len { result ≤ length found.old }
-        ensures best { (position : ℕ) → HasPart (T.its_word self.now.term.now) position id class part
-            → AreBest (IsPastIn (map T.its_word self.now.before.now) (T.its_word self.now.term.now) (map T.its_word self.now.after.now)
-            self.now.classes.now self.now.at_least position) (length found.old) (take len found.old)
-            → AreBest (IsPastIn (map T.its_word self.now.before.now) (T.its_word self.now.term.now) (map T.its_word self.now.after.now)
-            self.now.classes.now self.now.at_least (position + 1)) (length found.old) (take result found.new) }
-    {
-        if most < self.at_least - 1 {
-            return len;
-        }
-        if most == 0 {
-            return self.select_document(id, part, 0, found, len);
-        }
-        let rest = rest_of(self.after, class);
-        if is_full(
-            found,
-            len,
-            Scored {
-                score: part + rest,
-                id,
-            },
-        ) {
-            return len;
-        }
-        let (others, words) = score(self.after, id, class);
-        self.select_document(id, part + others, words, found, len)
-    }
-
-    /// Puts a document among the best, by its score and how many of the words after it has, unless it has one of those before.
-    fn select_document(
-        &self,
-        id: u32,
-        score: u64,
-        words: usize,
-        found: &mut [Scored],
-        len: usize,
-    ) -> usize
-        requires words { words ≡ count_by (has_word id) (map T.its_word self.now.after.now) }
-        requires few { words < 2 ^ 32 }
-        requires len { len ≤ length found.old }
-        ensures len { result ≤ length found.old }
-        ensures best { (position : ℕ) → HasScore (T.its_word self.now.term.now) (map T.its_word self.now.after.now) self.now.classes.now position id score
-            → AreBest (IsPastIn (map T.its_word self.now.before.now) (T.its_word self.now.term.now) (map T.its_word self.now.after.now)
-            self.now.classes.now self.now.at_least position) (length found.old) (take len found.old)
-            → AreBest (IsPastIn (map T.its_word self.now.before.now) (T.its_word self.now.term.now) (map T.its_word self.now.after.now)
-            self.now.classes.now self.now.at_least (position + 1)) (length found.old) (take result found.new) }
-    {
-        let document = Scored { score, id };
-        if words + 1 < self.at_least {
-            return len;
-        }
-        if is_full(found, len, document) {
-            return len;
-        }
-        if count_words(self.before, id) > 0 {
-            return len;
-        }
-        select(found, len, document)
+        let mut words = [0; 128];
+        count_others(self.after, &candidates.ids[..candidates.len], &mut words);
+        candidates.retain_with(&words, self.at_least - 1);
     }
 }
 

@@ -12,7 +12,7 @@ pub(crate) const BLOCK: usize = 128;
 #[repr(C)]
 #[derive(Clone, Copy)]
 pub struct Walk {
-    // How many blocks of counts were unpacked.
+    // How many blocks of counts were unpacked to rank the documents of the word.
     unpacked: usize,
     // How many positions the block has.
     len: usize,
@@ -36,7 +36,8 @@ impl Walk {
         }
     }
 
-    /// How many blocks of counts the last query unpacked for the word.
+    /// How many blocks of counts the last query unpacked to rank the documents of the word. Blocks in which documents of other words are looked
+    /// up do not count.
     pub fn unpacked(&self) -> usize
         ensures { result ≡ self.now.unpacked }
     {
@@ -120,7 +121,7 @@ pub(crate) fn most_of<T: AsTerm>(term: &T, block: usize) -> u32
 {
     let counts = term.counts();
     if block >= counts.blocks() {
-        return term.parts().most_of_class(0);
+        return term.parts().greatest();
     }
     term.parts().most(counts.bounds(block).1)
 }

@@ -121,7 +121,7 @@ fn same_as_a_scan() {
             .collect();
         for at_least in [1, 2, words.len()] {
             let all = scanned(0..documents as u32, &words, &classes, at_least);
-            for most in [1, 10, 129, all.len()] {
+            for most in [1, 10, 129, all.len().min(3000)] {
                 assert!(found(&words, &classes, at_least, most) == all[..most.min(all.len())], "round {round}");
             }
         }

@@ -1,11 +1,8 @@
 -- How a document goes among the best so far.
-use Rattle.std.specs.Prelude.{◌≡◌, ℕ, ◌+◌, ◌-◌, ◌<◌, ◌≤◌, ◌⊎◌, Bool, true, List, length, min, slice_index, slice_index_or}
-use Rattle.std.specs.List.{insert, sum_by}
-use Rattle.std.specs.List.Sorted.{IsStrictlyIncreasing}
-use Rattle.bitpack_sets.specs.Reads.{has}
+use Rattle.std.specs.Prelude.{◌≡◌, ℕ, ◌+◌, ◌-◌, ◌<◌, ◌≤◌, Bool, true, List, length, min, slice_index_or}
+use Rattle.std.specs.List.{insert}
 use Rattle.bitpack_ranked.specs.declared.found.Scored.{Scored}
-use Rattle.bitpack_ranked.specs.Ranked.{ComesBefore, part_in}
-use Rattle.bitpack_ranked.specs.Terms.{Word}
+use Rattle.bitpack_ranked.specs.Ranked.{ComesBefore}
 
 -- the index of the first document that comes after this one, or the end
 pub record IsPositionFor (document : Scored) (found : List Scored) (at : ℕ) : Type 0 where
@@ -28,10 +25,3 @@ pub record IsFull (k : ℕ) (document : Scored) (found : List Scored) : Type 0 w
 -- a test that finds this tells so
 abbrev pub ImpliesFull : ℕ → Scored → List Scored → Bool → Type 0
 ImpliesFull k document found answer = answer ≡ true → IsFull k document found
-
--- some of the documents increase, and each that is not one of them cannot be among the best
-pub record AreSkipped (words : List Word) (classes documents wanted : List ℕ) (k : ℕ) (found : List Scored) : Type 0 where
-  pub increasing : IsStrictlyIncreasing wanted
-  pub within : (id : ℕ) → has id wanted ≡ true → has id documents ≡ true
-  pub skipped : (i : ℕ) → i < length documents → (has (slice_index documents i) wanted ≡ true)
-      ⊎ (score : ℕ) × (sum_by (part_in classes (slice_index documents i)) words ≤ score) × IsFull k (record { score = score; id = slice_index documents i }) found

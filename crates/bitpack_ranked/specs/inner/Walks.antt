@@ -26,31 +26,13 @@ pub record IsUnpacked (word : Word) (block : ℕ) (walk : Walk) : Type 0 where
   pub ids : AreOfBlock word.ids block walk.len walk.ids
   pub counts : AreOfBlock word.counts block walk.len walk.counts
 
--- a document is at a position of a word, with its count
-pub record IsAt (word : Word) (position x n : ℕ) : Type 0 where
-  pub within : position < length word.ids
-  pub id : slice_index word.ids position ≡ x
-  pub count : slice_index word.counts position ≡ n
+-- no part of a table is above this one, the first of its last row
+abbrev pub greatest_part : List ℕ → ℕ
+greatest_part table = slice_index table (length table - 256)
 
--- a document is at a position of a word, with the part that the word adds to its score
-pub record HasPart (word : Word) (position x class p : ℕ) : Type 0 where
-  pub within : position < length word.ids
-  pub id : slice_index word.ids position ≡ x
-  pub part : part_at word.table (slice_index word.counts position) class ≡ p
-
--- a document is at a position of a word, with what the word and those after it add to its score
-pub record HasScore (word : Word) (after : List Word) (classes : List ℕ) (position x s : ℕ) : Type 0 where
-  pub within : position < length word.ids
-  pub id : slice_index word.ids position ≡ x
-  pub score : part_at word.table (slice_index word.counts position) (slice_index classes x) + sum_by (part_in classes x) after ≡ s
-
--- a part by this class is not less than one by the other
-abbrev pub Covers : ℕ → ℕ → Type 0
-Covers class other = (class ≡ other) ⊎ (class ≡ 0)
-
--- no document of the class has more than this by these words
-abbrev pub IsRest : ℕ → List Word → ℕ → Type 0
-IsRest rest words class = (classes : List ℕ) (id : ℕ) → Covers class (slice_index classes id) → sum_by (part_in classes id) words ≤ rest
+-- what words add to a score at most
+abbrev pub most_rest : List Word → ℕ
+most_rest words = sum_by (λ word. greatest_part word.table) words
 
 -- a hit that has one of the first words
 pub record IsPast (words : List Word) (classes : List ℕ) (at_least index : ℕ) (document : Scored) : Type 0 where

@@ -1,5 +1,5 @@
 -- The documents of one more block are added, and at the end no document is left that has the word.
-use Rattle.std.proofs.Common.{◌≡◌, ◌+◌, ◌*◌, ◌^◌, ◌<◌, get_or, length, min, refl, ap, inl, inr, arith}
+use Rattle.std.proofs.Common.{◌^◌, get_or, length, refl, ap, inl, inr, arith}
 use Rattle.std.proofs.lemmas.Bool.{cases_lt}
 use Rattle.bitpack_ranked.proofs.AddSteps.{after_all, lesser}
 use Rattle.bitpack_ranked.proofs.RankLaws.{before_rank}

@@ -1,5 +1,5 @@
 -- One more block.
-use Rattle.std.proofs.Common.{◌≡◌, ◌+◌, ◌*◌, ◌<◌, max, inl, inr, arith}
+use Rattle.std.proofs.Common.{◌≡◌, ◌*◌, max, inl, inr, arith}
 use Rattle.std.proofs.lemmas.Bool.{cases_lt}
 use Rattle.bitpack_ranked.proofs.AddSteps.{greater}
 use Rattle.bitpack_ranked.proofs.bounds.most_between.Goals as goal

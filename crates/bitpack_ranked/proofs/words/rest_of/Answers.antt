@@ -1,9 +1,8 @@
--- One more word is within the bound.
-use Rattle.std.proofs.Common.{◌≡◌, ◌<◌, get_or, length, map, take, ap, arith}
-use Rattle.std.specs.List.{sum_by}
+-- The greatest part of one more word is added.
+use Rattle.std.proofs.Common.{◌≡◌, ◌<◌, length, map, take, ap, ◌∙◌, arith}
 use Rattle.std.proofs.lemmas.List.{length-map, take_all}
-use Rattle.bitpack_ranked.specs.Ranked.{part_in}
-use Rattle.bitpack_ranked.proofs.WordSteps.{part_under, sum_more}
+use Rattle.bitpack_ranked.specs.inner.Walks.{greatest_part, most_rest}
+use Rattle.bitpack_ranked.proofs.WordSteps.{sum_more}
 use Rattle.bitpack_ranked.proofs.words.rest_of.Goals as goal
 
 pub loop-index-preserved : goal.loop-index-preserved
@@ -13,18 +12,14 @@ loop-index-preserved g c =
     let i = c.loop-index.index in
     let x = c.index-terms-index.result in
     let lt : i < length ts = omega (arith, c.loop-index-test.true) in
-    let (rest, small) = c.loop-index.invariant in (
-      λ classes id covers.
-          let more = sum_more f ts i x c.index-terms-index.is lt (part_in classes id) in
-          let its = part_under (f x) classes id c.most_of_class.result (λ count. rw c.parts.ensures at c.most_of_class.ensures count (get_or classes id 0) covers) in
-          omega (arith, more, its, rest classes id covers),
-      omega (arith, small, c.most_of_class.type_inv),
-    )
+    let (rest, small) = c.loop-index.invariant in
+    let more = sum_more f ts i x c.index-terms-index.is lt (λ word. greatest_part word.table) in
+    let its : c.greatest.result ≡ greatest_part (f x).table = c.greatest.ensures ∙ ap greatest_part c.parts.ensures in
+    (omega (arith, more, its, rest), omega (arith, small, c.greatest.type_inv))
 
 pub returns-clause-rest : goal.returns-clause-rest
-returns-clause-rest g c = λ classes id covers.
+returns-clause-rest g c =
     let f = g.T.AsTerm.its_word in
     let ts = c.args.terms.now in
-    let (rest, small) = c.loop-index.invariant in
     let whole : take c.loop-index.index (map f ts) ≡ map f ts = take_all c.loop-index.index (map f ts) (omega (arith, c.loop-index-test.false, length-map ts f)) in
-    omega (arith, rest classes id covers, ap (λ zs. sum_by (part_in classes id) zs) whole)
+    c.loop-index.invariant.0 ∙ ap most_rest whole

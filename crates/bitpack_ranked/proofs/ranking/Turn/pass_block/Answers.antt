@@ -1,6 +1,7 @@
 -- The bound of the block tells that none of its documents is among the best, or they are taken.
-use Rattle.std.proofs.Common.{◌+◌, ◌*◌, length, map, take, get_or, refl, inr, arith}
+use Rattle.std.proofs.Common.{◌+◌, ◌*◌, length, map, take, get_or, arith}
 use Rattle.bitpack_ranked.proofs.PastSteps.{past_full}
+use Rattle.bitpack_ranked.proofs.WordSteps.{rest_bounds}
 use Rattle.bitpack_ranked.proofs.ranking.Turn.pass_block.Goals as goal
 
 pub returns-then-is_full-clause-best : goal.returns-then-is_full-clause-best
@@ -17,7 +18,8 @@ returns-then-is_full-clause-best g c =
       omega (
         arith,
         c.most_of.ensures i (get_or classes (get_or word.ids i 0) 0) from upto within,
-        c.requires.rest classes (get_or word.ids i 0) (inr refl),
+        rest_bounds f g.met.T.AsTerm.is_word turn.after.now classes (get_or word.ids i 0),
+        c.requires.rest,
       ),
     )) (c.is_full.ensures c.if-is_full.true) c.requires.best
 
@@ -35,6 +37,7 @@ returns-then-is_full-2-clause-best g c =
       omega (
         arith,
         c.unpack_counts.ensures.most i (get_or classes (get_or word.ids i 0) 0) from upto within,
-        c.requires.rest classes (get_or word.ids i 0) (inr refl),
+        rest_bounds f g.met.T.AsTerm.is_word turn.after.now classes (get_or word.ids i 0),
+        c.requires.rest,
       ),
     )) (c.is_full-2.ensures c.if-is_full-2.true) c.requires.best
