@@ -54,7 +54,7 @@ module _ (before : List Word) (word : Word) (after : List Word) (is : IsWord wor
         let counted = unpacked.counts j (omega (arith, lt, len)) in
         let score = scores j (omega (arith, lt, len)) in
         let same : part_at word.table (get_or walk.counts j 0) (get_or classes (get_or walk.ids j 0) 0)
-            ≡ part_at word.table (get_or word.counts (p + j) 0) (get_or classes id 0) =
+        ≡ part_at word.table (get_or word.counts (p + j) 0) (get_or classes id 0) =
         ap (λ n. part_at word.table n (get_or classes (get_or walk.ids j 0) 0)) counted
         ∙ ap (λ x. part_at word.table (get_or word.counts (p + j) 0) (get_or classes x 0)) (sym (ids j (omega (arith, lt, len)))) in
         omega (arith, sum_all (part_in classes id) before word after, part, score, same);

@@ -99,7 +99,7 @@ module _ (words before : List Word) (classes : List ℕ) (test : ℕ → Bool) (
       adds_up = λ j lt.
           let (p, less, id, score) = some.from j lt in
           subst (λ x. sum_by (part_in classes x) words ≡ sum_by (part_in classes x) before + (get_or new.scores j 0 + sum_by (part_in classes x) left)) id
-              (omega (arith, are.adds_up p less, score));
+          (omega (arith, are.adds_up p less, score));
       others = λ id passes. elim (are.others id (fewer id passes)) [
         | inr beaten ↦ inr beaten
         | inl there ↦

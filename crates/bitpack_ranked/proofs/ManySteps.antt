@@ -195,10 +195,10 @@ module _ (words : List Word) (classes : List ℕ) (k : ℕ) (ids : List ℕ) (ol
         → AreBest (IsScored (passed old test ids (i + 1)) words classes) k found
     skipped found fails best = many_same (passed old test ids i) (passed old test ids (i + 1)) words classes k more found
         (λ id is. less_cases (old id) (test id) (has id ids) (has id (take i ids)) (has id (take (i + 1) ids)) (λ passes now.
-            elim (or_cases (has id (take i ids)) (eqb this id) (sym (has_more id ids i lt) ∙ now)) [
-              | inl before ↦ before
-              | inr same ↦ absurd (true≢false (sym passes ∙ ap test (sym (eqb-true this id same)) ∙ fails))
-            ]) is) best
+        elim (or_cases (has id (take i ids)) (eqb this id) (sym (has_more id ids i lt) ∙ now)) [
+          | inl before ↦ before
+          | inr same ↦ absurd (true≢false (sym passes ∙ ap test (sym (eqb-true this id same)) ∙ fails))
+        ]) is) best
 
     taken : (score : ℕ) → test this ≡ true → score ≡ sum_by (part_in classes this) words → (found new : List Scored)
         → (IsSelected k (record { score = score; id = this }) found new) ⊎ ((new ≡ found) × IsFull k (record { score = score; id = this }) found)
@@ -206,7 +206,7 @@ module _ (words : List Word) (classes : List ℕ) (k : ℕ) (ids : List ℕ) (ol
     taken score passes adds_up found new done best = one_kept (passed old test ids i) (passed old test ids (i + 1)) words classes k more
         (record { score = score; id = this }) found new
         (now_passed (old this) (test this) (has this ids) (has this (take (i + 1) ids)) passes
-            (has_more this ids i lt ∙ or_second (has this (take i ids)) _ (eq-eqb this this refl))) adds_up
+        (has_more this ids i lt ∙ or_second (has this (take i ids)) _ (eq-eqb this this refl))) adds_up
         (λ id is. elim (true_or_false (eqb this id)) [
           | inl same ↦ inr (sym (eqb-true this id same))
           | inr other ↦ inl (less_cases (old id) (test id) (has id ids) (has id (take i ids)) (has id (take (i + 1) ids)) (λ p now.
@@ -216,7 +216,7 @@ module _ (words : List Word) (classes : List ℕ) (k : ℕ) (ids : List ℕ) (ol
               ]) is)
         ])
         (λ is. not_yet (old this) (test this) (has this (take i ids)) (fresh this passes) not_before
-            (sym (ap (λ b. (old this || (test this && not b)) || (test this && has this (take i ids))) (has_at ids i lt)) ∙ is)) done best
+        (sym (ap (λ b. (old this || (test this && not b)) || (test this && has this (take i ids))) (has_at ids i lt)) ∙ is)) done best
 
     -- a document that has an id is taken, or skipped
     abbrev Step : ℕ → Type 0

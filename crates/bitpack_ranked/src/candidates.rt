@@ -33,7 +33,14 @@ impl Candidates {
             self.old self.new }
     {
         let mut marks = [0; 128];
-        mark_best(&self.ids[..self.len], &self.scores, rest, found, len, &mut marks);
+        mark_best(
+            &self.ids[..self.len],
+            &self.scores,
+            rest,
+            found,
+            len,
+            &mut marks,
+        );
         self.len = retain(&mut self.ids, &mut self.scores, self.len, &marks);
     }
 

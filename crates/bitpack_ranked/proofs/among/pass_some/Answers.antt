@@ -30,8 +30,8 @@ returns-clause-best g c = λ old fresh best.
     let left = some_left words [] classes test k found words its.result c.retain_bounded.new.self are test (λ j upto. refl) (λ id is. is)
     (λ p. IsBeaten k found (get_or bounds p 0) (get_or its.result.ids p 0)) c.retain_bounded.ensures.retained
     (λ p lt passes beaten.
-        let id = its_id documents its.result its.ensures.len its.ensures.ids p lt in
-        (get_or bounds p 0, rw id (c.bound_all.ensures p (omega (arith, lt, its.ensures.len))), beaten)) in
+    let id = its_id documents its.result its.ensures.len its.ensures.ids p lt in
+    (get_or bounds p 0, rw id (c.bound_all.ensures p (omega (arith, lt, its.ensures.len))), beaten)) in
     c.rank.ensures.best words test old left fresh best
 
 pub bound_all-requires-clause-none : goal.bound_all-requires-clause-none

@@ -23,9 +23,9 @@ loop-index-preserved c =
           (omega (arith, lt, c.requires.room.0, c.loop-index.auto.ids)) (omega (arith, lt, c.requires.room.1, c.loop-index.auto.scores)) id score done
           (λ k. get_or c.args.marks.now k 0 ≡ 1) mark few (λ one. one) marked,
       λ k above. let (its, has) = rest k (omega (arith, above)) in (
-          get_or-set_other ids n k (get_or ids i 0) 0 (λ e. omega (arith, e, above, le)) ∙ its,
-          get_or-set_other scores n k (get_or scores i 0) 0 (λ e. omega (arith, e, above, le)) ∙ has,
-        ),
+        get_or-set_other ids n k (get_or ids i 0) 0 (λ e. omega (arith, e, above, le)) ∙ its,
+        get_or-set_other scores n k (get_or scores i 0) 0 (λ e. omega (arith, e, above, le)) ∙ has,
+      ),
     )
 
 pub returns-clause-retained : goal.returns-clause-retained

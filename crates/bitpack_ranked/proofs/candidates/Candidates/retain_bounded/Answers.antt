@@ -15,7 +15,7 @@ returns-clause-retained c =
     retained_as (λ p. get_or c.mark_best.new.marks p 0 ≡ 0) (λ p. IsBeaten k found (get_or c.args.bounds.now p 0) (get_or ids p 0)) ids c.args.self.now.scores len
     c.retain-self.new.ids c.retain-self.new.scores c.retain-self.result
     (λ p lt none.
-        let bound : get_or c.args.bounds.now p 0 + 0 ≡ get_or c.args.bounds.now p 0 = omega arith in
-        let beaten = c.mark_best.ensures.none p (omega (arith, lt, c.requires.short, room, length-take len ids)) none in
-        subst (λ score. IsBeaten k found score (get_or ids p 0)) bound
-        (subst (λ id. IsBeaten k found (get_or c.args.bounds.now p 0 + 0) id) (get_or-take len ids p 0 lt) beaten)) c.retain-self.ensures.retained
+    let bound : get_or c.args.bounds.now p 0 + 0 ≡ get_or c.args.bounds.now p 0 = omega arith in
+    let beaten = c.mark_best.ensures.none p (omega (arith, lt, c.requires.short, room, length-take len ids)) none in
+    subst (λ score. IsBeaten k found score (get_or ids p 0)) bound
+    (subst (λ id. IsBeaten k found (get_or c.args.bounds.now p 0 + 0) id) (get_or-take len ids p 0 lt) beaten)) c.retain-self.ensures.retained

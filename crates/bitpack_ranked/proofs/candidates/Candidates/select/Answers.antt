@@ -46,10 +46,13 @@ loop-index-preserved g c =
           (λ passes. omega (arith, are.adds_up i lt, no_parts classes id before (none passes), zero))
           (take c.loop-index.len c.loop-index.found) (take selected.result selected.new.found) (elim selected.ensures.selected [
             | inl new ↦ inl (are.passes i lt ∙ lt-ltb count 1 (omega (arith, new.0)), new.1)
-            | inr same ↦ inr (same.0, elim same.1 [
-              | inl some ↦ inl (are.passes i lt ∙ le-ltb count 1 (omega (arith, some)))
-              | inr full ↦ inr full
-            ])
+            | inr same ↦ inr (
+              same.0,
+              elim same.1 [
+                | inl some ↦ inl (are.passes i lt ∙ le-ltb count 1 (omega (arith, some)))
+                | inr full ↦ inr full
+              ],
+            )
           ]) (done words classes test old are fresh best)),
     )
 

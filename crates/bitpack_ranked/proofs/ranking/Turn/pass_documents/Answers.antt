@@ -60,22 +60,22 @@ returns-clause-best g c =
     )) in
     let with_enough = some_left words before classes new k found after best c.retain_enough.new.candidates left fresh
     (λ j lt. let id = get_or c.retain_enough.new.candidates.ids j 0 in
-        and_second (enough id) (new id) (λ e. le-leb at_least (count_by (has_word id) words) (omega (
-          arith,
-          count_new before word after is classes at_least k p q id e,
-          c.retain_enough.ensures.enough j lt,
-        ))))
+    and_second (enough id) (new id) (λ e. le-leb at_least (count_by (has_word id) words) (omega (
+      arith,
+      count_new before word after is classes at_least k p q id e,
+      c.retain_enough.ensures.enough j lt,
+    ))))
     (λ id e. (both_true (enough id) (new id) e).1)
     (λ j. count_by (has_word (get_or best.ids j 0)) after + 1 < at_least) c.retain_enough.ensures.retained
     (λ j lt e gone.
-        let id = get_or best.ids j 0 in
-        let (some, also) = both_true (enough id) (new id) e in
-        absurd (omega (
-          arith,
-          leb-true at_least (count_by (has_word id) words) some,
-          count_new before word after is classes at_least k p q id also,
-          gone,
-        ))) in
+    let id = get_or best.ids j 0 in
+    let (some, also) = both_true (enough id) (new id) e in
+    absurd (omega (
+      arith,
+      leb-true at_least (count_by (has_word id) words) some,
+      count_new before word after is classes at_least k p q id also,
+      gone,
+    ))) in
     from_tests before word after is classes at_least k (take c.rank.result c.rank.new.found) p q (omega arith)
     (c.rank.ensures.best words fresh (is_past before word after is classes at_least k p) with_enough (fresh_not_past before word after is classes at_least k p q)
     (to_tests before word after is classes at_least k found p c.requires.best))

@@ -27,8 +27,8 @@ returns-clause-retained g c =
     let room : length its.ids ≡ 128 = search rules in
     retained_as (λ p. get_or words p 0 < at_least - 1) (λ p. count_by (has_word (get_or its.ids p 0)) after + 1 < at_least) its.ids its.scores its.len new.ids new.scores
     new.len (λ p lt few.
-        let counted = c.count_others.ensures p (omega (arith, lt, c.requires, room, length-take its.len its.ids)) in
-        omega (arith, few, counted, ap (λ id. count_by (has_word id) after) (get_or-take its.len its.ids p 0 lt))) c.retain_with.ensures.retained
+    let counted = c.count_others.ensures p (omega (arith, lt, c.requires, room, length-take its.len its.ids)) in
+    omega (arith, few, counted, ap (λ id. count_by (has_word id) after) (get_or-take its.len its.ids p 0 lt))) c.retain_with.ensures.retained
 
 pub returns-clause-enough : goal.returns-clause-enough
 returns-clause-enough g c = λ j lt.
