@@ -30,16 +30,20 @@ static void read_values(const Chunk *it, size_t from, size_t len, char *out)
     uint32_t low[PIECE], high[PIECE];
     size_t done, count, i;
     uint64_t value;
+    const uint64_t least = it->least; /* as far as the compiler knows, writing to `out` may change what `it` points to */
+    const int is_wide = it->is_wide;
 
     for (done = 0; done < len; done += count) {
         count = len - done < PIECE ? len - done : PIECE;
         bitpacking_column_range(&it->low, from + done, low, count);
-        if (it->is_wide)
+        if (is_wide)
             bitpacking_column_range(&it->high, from + done, high, count);
-        for (i = 0; i < count; i++) {
-            value = it->least + low[i];
-            if (it->is_wide)
-                value += (uint64_t)high[i] << 32;
+        for (i = 0; !is_wide && i < count; i++) {
+            value = least + low[i];
+            memcpy(out + 8 * (done + i), &value, 8);
+        }
+        for (; i < count; i++) {
+            value = least + ((uint64_t)high[i] << 32 | low[i]);
             memcpy(out + 8 * (done + i), &value, 8);
         }
     }

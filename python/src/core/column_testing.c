@@ -80,8 +80,15 @@ static void see_blocks(const Chunk *it, uint64_t greatest, Bounds *bounds)
                 continue;
         }
         bitpacking_column_range(&it->low, at, values, count);
-        for (i = 0; i < count; i++)
-            see(bounds, values[i]);
+        for (i = count; i < BITPACKING_4X_BLOCK_LEN; i++)
+            values[i] = values[0];
+        least = most = values[0];
+        for (i = 0; i < BITPACKING_4X_BLOCK_LEN; i++) { /* always as many rounds, for which the compiler uses vectors */
+            least = values[i] < least ? values[i] : least;
+            most = values[i] > most ? values[i] : most;
+        }
+        see(bounds, least);
+        see(bounds, most);
     }
 }
 

@@ -25,6 +25,7 @@ _HEADER, _CRC = struct.Struct("<4sBBBBQII"), struct.Struct("<I")
 _ROW = np.dtype([("least", "<u8"), ("greatest", "<u8"), ("sizes", "<u4", 3), ("crc", "<u4")])
 _NAME, _VERSION, _KINDS = b"FCOL", 2, "iuMm"
 _START = _HEADER.size + _CRC.size
+_LIMITS = [(-(1 << 63), (1 << 63) - 1), (0, (1 << 64) - 1)]  # of the numbers with a sign, and without
 _TEXTS = {
     "Short": "Bytes of the column are missing.",
     "Trailing": "Bytes are left over after the column.",
@@ -186,6 +187,8 @@ class Column(_core.Column):
         Missing values are NaT, or `fill`, or the array is a masked one if there is no `fill`; an `out` needs it."""
         wanted = room_for(len(self), out, dtype).dtype if out is not None else np.dtype(self._dtype if dtype is None else dtype)
         self._need_fit(wanted, fill)
+        if out is None and (fill is not None or self._dtype.kind in "Mm"):
+            return self._unpack_to(np.empty(len(self), self._dtype), fill).astype(wanted, copy=False)
         if out is None:
             return self._shown(*self._numbers(0, len(self)), fill).astype(wanted, copy=False)
         if self._missing and fill is None and self._dtype.kind in "iu":
@@ -233,8 +236,8 @@ class Column(_core.Column):
 
     def _within(self, low: Any, high: Any) -> Optional[Tuple[int, int]]:
         """Limits that fit the type, or None if no value can be within them."""
-        limits = np.iinfo(STORED[self._dtype.kind])
-        least, greatest = max(self._limit(low, 1), limits.min), min(self._limit(high, -1), limits.max)
+        first, last = _LIMITS[self._dtype.kind == "u"]
+        least, greatest = max(self._limit(low, 1), first), min(self._limit(high, -1), last)
         return (least, greatest) if least <= greatest else None
 
     def between(self, low: Any, high: Any) -> npt.NDArray[np.int64]:
@@ -254,8 +257,8 @@ class Column(_core.Column):
 
     def seek(self, target: Any) -> Optional[Tuple[int, Any]]:
         """The position and the value of the first value that is at least the target, or None. Error if the column is not sorted."""
-        wanted, limits = self._limit(target, 1), np.iinfo(STORED[self._dtype.kind])
-        found = self._seek(max(wanted, limits.min)) if wanted <= limits.max else self._seek(limits.max) and None
+        wanted, (first, last) = self._limit(target, 1), _LIMITS[self._dtype.kind == "u"]
+        found = self._seek(max(wanted, first)) if wanted <= last else self._seek(last) and None
         return found and (found[0], self._scalar(found[1]))
 
     def min(self) -> Any:

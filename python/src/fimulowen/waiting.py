@@ -2,8 +2,10 @@
 
 from __future__ import annotations
 
+import _thread
 import threading
-from typing import Any, Callable, List
+from queue import SimpleQueue
+from typing import Any, Callable
 
 LONG = 1 << 22  # ids, or bytes
 
@@ -13,19 +15,17 @@ def run(size: int, call: Callable[..., Any], *arguments: Any) -> Any:
     on to its end in the background, and what it returns is dropped."""
     if size < LONG or threading.current_thread() is not threading.main_thread():
         return call(*arguments)
-    found: List[Any] = []
+    answers: SimpleQueue[Any] = SimpleQueue()
 
     def work() -> None:
         try:
-            found.extend((call(*arguments), None))
+            answers.put((call(*arguments), None))
         except BaseException as why:
-            found.extend((None, why))
+            answers.put((None, why))
 
-    thread = threading.Thread(target=work, daemon=True)
-    thread.start()
-    while thread.is_alive():
-        thread.join(0.02)
-    result, why = found
+    # No Thread: a signal while that starts, or is joined, may find its lock half taken.
+    _thread.start_new_thread(work, ())
+    result, why = answers.get()
     if why is not None:
         raise why
     return result

@@ -151,7 +151,7 @@ fn blocks_that_stay_packed() {
     assert_eq!(ranking::best(&terms, &[], 1, &mut walks, &mut room), 11);
     // The eleventh has 300, which no later document beats: the first block has it.
     assert_eq!((walks[0].unpacked(), room[10].id), (1, 30));
-    // A query by AND unpacks the blocks of its first word alone. A count of the second may be 4, so that no bound is below 300 + 1200.
+    // A query by AND ranks the documents of its first word alone. A count of the second may be 4, so that no bound is below 300 + 1200.
     let mut walks = [walks[0]; 2];
     assert_eq!(ranking::best(&[terms[0]; 2], &[], 2, &mut walks, &mut room), 11);
     assert_eq!((walks[0].unpacked(), walks[1].unpacked()), (8, 0));
