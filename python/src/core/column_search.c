@@ -10,9 +10,10 @@ typedef struct {
     uint64_t from, to;
 } Limits;
 
-/* Positions, and room for those of another chunk. */
+/* Positions: those in a chunk, and the array of all, which has room for each chunk that is searched. */
 typedef struct {
-    size_t *at, len, room;
+    size_t *at, len;
+    Py_buffer out;
 } Found;
 
 /* The limits of the codes of the values from low to high in a chunk, or 0 if it has none. Both are in the order of numbers without a sign. */
@@ -83,32 +84,16 @@ static ptrdiff_t chunk_between(const Chunk *it, const Limits *limits, size_t *fo
     return missing_of(it) > 0 ? present(it, found, count) : (ptrdiff_t)count;
 }
 
-/* Makes room for the positions of another chunk. Returns -1 if memory ran out. */
-static int make_room(Found *found, size_t more)
-{
-    size_t room = found->len + more > 2 * found->room ? found->len + more : 2 * found->room, *at;
-
-    if (found->len + more <= found->room)
-        return 0;
-    if (!(at = realloc(found->at, sizeof(size_t) * room)))
-        return -1;
-    found->at = at;
-    found->room = room;
-    return 0;
-}
-
 /* Appends the positions of a chunk that begins at a position. Returns -1 if memory ran out. */
 static int append_between(const Chunk *it, const Limits *limits, size_t begin, Found *found)
 {
-    ptrdiff_t count = make_room(found, chunk_len(it)) < 0 ? -1 : chunk_between(it, limits, found->at + found->len);
-    size_t i;
+    ptrdiff_t count = chunk_between(it, limits, found->at), i;
+    int64_t *to = (int64_t *)found->out.buf + found->len;
 
-    if (count < 0)
-        return -1;
-    for (i = found->len; i < found->len + (size_t)count; i++)
-        found->at[i] += begin;
-    found->len += (size_t)count;
-    return 0;
+    for (i = 0; i < count; i++)
+        to[i] = (int64_t)(found->at[i] + begin);
+    found->len += count < 0 ? 0 : (size_t)count;
+    return count < 0 ? -1 : 0;
 }
 
 /* Reads limits, as 64 bits of the type, in the order of numbers without a sign. */
@@ -123,20 +108,6 @@ static int get_limits(const Column *self, PyObject *args, uint64_t *low, uint64_
     return PyErr_Occurred() ? -1 : 0;
 }
 
-/* The positions as an array of int64. */
-static PyObject *array_of(const Found *found)
-{
-    Py_buffer out;
-    PyObject *array = new_array(found->len, type_index, &out);
-
-    if (array) {
-        if (found->len > 0)
-            UNLOCKED(found->len, memcpy(out.buf, found->at, 8 * found->len));
-        PyBuffer_Release(&out);
-    }
-    return array;
-}
-
 /* between(low, high): the positions of values within limits that fit the type. */
 PyObject *Column_between(PyObject *self, PyObject *args)
 {
@@ -144,9 +115,19 @@ PyObject *Column_between(PyObject *self, PyObject *args)
     Limits limits;
     PyObject *array;
     uint64_t low, high;
-    size_t m;
+    size_t m, room = 0;
     int failed = get_limits(of(self), args, &low, &high);
 
+    if (failed)
+        return NULL;
+    for (m = 0; m < of(self)->count; m++)
+        if (limits_in(of(self), &of(self)->chunks[m], low, high, &limits))
+            room += chunk_len(&of(self)->chunks[m]);
+    if (!(array = new_array(room, type_index, &found.out)))
+        return NULL;
+    found.at = malloc(sizeof(size_t) * (room < CHUNK ? room + 1 : CHUNK));
+    if (!found.at)
+        failed = (PyErr_NoMemory(), -1);
     for (m = 0; m < of(self)->count && !failed; m++) {
         const Chunk *it = &of(self)->chunks[m];
         if (!limits_in(of(self), it, low, high, &limits))
@@ -157,9 +138,12 @@ PyObject *Column_between(PyObject *self, PyObject *args)
         else
             failed = PyErr_CheckSignals();
     }
-    array = failed ? NULL : array_of(&found);
     free(found.at);
-    return array;
+    if (!failed)
+        return first_of(array, &found.out, found.len);
+    PyBuffer_Release(&found.out);
+    Py_DECREF(array);
+    return NULL;
 }
 
 /* How many values of a chunk are within limits, or -1 if memory ran out. */
