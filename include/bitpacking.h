@@ -903,7 +903,7 @@ typedef struct bitpacking_scored {
  * After them, any item of found may have changed.
  *
  * classes has the class of each document by its id. Documents after its end have class 0. With at_least of 1 or 0 it is a query by OR, and with
- * terms_len by AND. Each term needs one of walks. Put the rarest word first: that is fastest. A call takes about 6 KB of stack.
+ * terms_len by AND. Each term needs one of walks. Put the rarest word first: that is fastest. A call takes about 11 KB of stack.
  *
  *     bitpacking_walk walks[2];
  *     bitpacking_scored found[10];

@@ -1,7 +1,7 @@
 //! Ranked search: the best documents of a query, by a score that adds up what each word is worth.
 //!
 //! A word has the set of its documents, a column with one count for each, and a table: what it adds to the score of a document, by its count
-//! there and by the class of the length of the document. Counts that cannot be of one of the best stay packed.
+//! there and by the class of the length of the document. Most counts that cannot be of one of the best stay packed.
 //!
 //! ```
 //! use bitpacking::column::{ColumnBuf, Kind};

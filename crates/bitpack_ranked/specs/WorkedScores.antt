@@ -7,14 +7,14 @@ use Rattle.bitpack_ranked.specs.Terms.{Word}
 abbrev pub worked_table : List ℕ
 worked_table = flat_map (λ count. map (λ class. count * (300 - class)) (range_with_len 0 256)) (range_with_len 0 5)
 
--- the first word is twice in document 1, once in 4 and in 7; the second once in 4, three times in 9
+-- the documents with ids 1, 4 and 7 have the first word twice, once and once; those with ids 4 and 9 have the second once and three times
 abbrev pub worked_words : List Word
 worked_words =
     record { ids = 1 ∷ 4 ∷ 7 ∷ []; counts = 2 ∷ 1 ∷ 1 ∷ []; table = worked_table }
     ∷ record { ids = 4 ∷ 9 ∷ []; counts = 1 ∷ 3 ∷ []; table = worked_table }
     ∷ []
 
--- document 9 has class 100, the others 0
+-- the one with id 9 has class 100, the others 0
 abbrev pub worked_classes : List ℕ
 worked_classes = replicate 9 0 ++ 100 ∷ []
 

@@ -1,4 +1,4 @@
-//! The best documents of a query. Blocks of counts that cannot hold one of them stay packed.
+//! The best documents of a query, block by block of each word. If none of a block can be one of them, its documents are not ranked.
 
 ghost use Rattle.std.specs.Prelude.{◌≡◌, ℕ, ◌+◌, ◌-◌, ◌*◌, ◌^◌, ◌<◌, ◌≤◌, length, map, max, slice_index, take};
 ghost use Rattle.std.specs.List.{count_by};
@@ -24,7 +24,7 @@ use crate::words::rest_of;
 /// hold anything before. Allocates nothing.
 ///
 /// Words are ranked one after the other, and it is fastest if the rarest word comes first. If the bound of a block of 128 positions tells that
-/// none of the best is there, its counts are not unpacked.
+/// none of the best is there, its documents are not ranked.
 pub fn best<T: AsTerm>(
     terms: &[T],
     classes: &[u8],
