@@ -451,7 +451,7 @@ size_t bitpacking_set_rank(const bitpacking_set *view, uint32_t target);
 
 /* Unpacks the ids from position `from` on, as many as there are and as fit, and returns how many these are: 0 from the number of ids on. Those in
  * the buffer after them are unchanged. */
-ptrdiff_t bitpacking_set_range(const bitpacking_set *view, size_t from, uint32_t *ids, size_t ids_len);
+ptrdiff_t bitpacking_set_slice(const bitpacking_set *view, size_t from, uint32_t *ids, size_t ids_len);
 
 /* The greatest base: with it, no id or value passes 64 bits. */
 #define BITPACKING_MAX_BASE (UINT64_MAX - UINT32_MAX)

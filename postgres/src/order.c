@@ -19,8 +19,8 @@ static int sign_of(const bitpacking_set *a, const bitpacking_set *b)
         return 0;
     for (from = 0; from < shorter; from += PIECE) {
         CHECK_FOR_INTERRUPTS();
-        bitpacking_set_range(a, from, a_ids, PIECE);
-        bitpacking_set_range(b, from, b_ids, PIECE);
+        bitpacking_set_slice(a, from, a_ids, PIECE);
+        bitpacking_set_slice(b, from, b_ids, PIECE);
         for (i = 0; i < PIECE && from + i < shorter; i++)
             if (a_ids[i] != b_ids[i])
                 return a_ids[i] < b_ids[i] ? -1 : 1;

@@ -118,7 +118,7 @@ Datum idset_count_between(PG_FUNCTION_ARGS)
 static Datum part(const bitpacking_set *set, size_t from, size_t len)
 {
     uint32 *ids = new_ids(len);
-    struct varlena *value = packed(ids, (size_t)bitpacking_set_range(set, from, ids, len));
+    struct varlena *value = packed(ids, (size_t)bitpacking_set_slice(set, from, ids, len));
 
     pfree(ids);
     PG_RETURN_POINTER(value);
@@ -177,7 +177,7 @@ Datum idset_unnest(PG_FUNCTION_ARGS)
     if (it->index == it->count) {
         CHECK_FOR_INTERRUPTS();
         it->from += it->count;
-        it->count = (size_t)bitpacking_set_range(&it->set, it->from, it->ids, PIECE);
+        it->count = (size_t)bitpacking_set_slice(&it->set, it->from, it->ids, PIECE);
         it->index = 0;
     }
     if (it->count == 0)

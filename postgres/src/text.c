@@ -71,7 +71,7 @@ Datum idset_out(PG_FUNCTION_ARGS)
 
     initStringInfo(&text);
     appendStringInfoChar(&text, '{');
-    for (from = 0; (count = (size_t)bitpacking_set_range(&set, from, ids, PIECE)) > 0; from += count) {
+    for (from = 0; (count = (size_t)bitpacking_set_slice(&set, from, ids, PIECE)) > 0; from += count) {
         CHECK_FOR_INTERRUPTS();
         enlargeStringInfo(&text, (int)(11 * count));
         for (i = 0; i < count; i++) {

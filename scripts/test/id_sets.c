@@ -116,9 +116,9 @@ static void ranges(const bitpacking_set *set)
         for (room = 0; room < 3; room++) {
             const size_t left = count - i, len = left + room < 1 ? 0 : left + room - 1;
 
-            LEAVES_ALONE(bitpacking_set_range(set, i, found, len), (values + i), left < len ? left : len, "other ids from a position on");
+            LEAVES_ALONE(bitpacking_set_slice(set, i, found, len), (values + i), left < len ? left : len, "other ids from a position on");
         }
-    LEAVES_ALONE(bitpacking_set_range(set, SIZE_MAX, found, 1), values, 0, "ids from the greatest position on");
+    LEAVES_ALONE(bitpacking_set_slice(set, SIZE_MAX, found, 1), values, 0, "ids from the greatest position on");
 }
 
 static void accepts(void)
@@ -273,7 +273,7 @@ static void empty(void)
     uint32_t id = 77;
 
     position = 77;
-    expect(bitpacking_set_unpack(&set, NULL, 0) == 0 && bitpacking_set_range(&set, 0, NULL, 0) == 0, "zeros have ids");
+    expect(bitpacking_set_unpack(&set, NULL, 0) == 0 && bitpacking_set_slice(&set, 0, NULL, 0) == 0, "zeros have ids");
     expect(bitpacking_set_get(&set, 0, &id) == 0 && bitpacking_set_seek(&set, 0, &position, &id) == 0, "zeros have an id");
     expect(bitpacking_set_unpack_wide(&set, 0, NULL, 0) == 0 && bitpacking_set_add(&set, 0, NULL, 0) == 0, "zeros have wide ids");
     expect(bitpacking_set_retain(&set, NULL, 0) == 0 && bitpacking_set_remove(&set, NULL, 0) == 0, "an empty array");

@@ -18,7 +18,7 @@ pub extern "C" fn bitpacking_set_rank(view: &SetView<'_>, target: u32) -> usize
 /// Writes the ids from a position on to the front of `ids`, as many as there are and as fit. Returns how many these are. The rest of `ids` is
 /// unchanged.
 #[unsafe(no_mangle)]
-pub extern "C" fn bitpacking_set_range(view: &SetView<'_>, from: usize, ids: &mut [u32]) -> isize
+pub extern "C" fn bitpacking_set_slice(view: &SetView<'_>, from: usize, ids: &mut [u32]) -> isize
     ensures { UnpacksFrom from (ids_in view.now.bytes.now) ids.old ids.new result }
 {
     view.as_set().copy_range(from, ids) as isize

@@ -27,7 +27,7 @@ static PyObject *range_of(PyObject *self, size_t from, size_t len)
 
     for (done = 0; array && done < len; done += count) {
         count = least_of(len - done, PART);
-        UNLOCKED(count, bitpacking_set_range(view_of(self), from + done, (uint32_t *)out.buf + done, count));
+        UNLOCKED(count, bitpacking_set_slice(view_of(self), from + done, (uint32_t *)out.buf + done, count));
         if (PyErr_CheckSignals() < 0) {
             PyBuffer_Release(&out);
             Py_CLEAR(array);
@@ -140,7 +140,7 @@ static void copy_ids(const bitpacking_set *view, size_t from, char *out, size_t 
 
     for (done = 0; done < len; done += count) {
         count = least_of(len - done, MANY);
-        bitpacking_set_range(view, from + done, part, count);
+        bitpacking_set_slice(view, from + done, part, count);
         if (item == 4)
             memcpy(out + 4 * done, part, 4 * count);
         else
