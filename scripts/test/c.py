@@ -58,9 +58,8 @@ PROGRAMS = {
     "examples/block.c": "128 ids in 32 bytes\n",
     # Gaps of 2 and 4 in turn: one less are 1 and 3, two bits each, and so 2 * 16 bytes for each block of 128.
     "examples/chain.c": "300 numbers: 2 and 2 bits, 64 bytes, 44 numbers as they are\n",
-    # Byte 0, the first id as a number, and a group of the three codes 1, 0 and 289: a byte with their width 9, and 27 bits.
-    "examples/id_set.c": "4 ids in 7 bytes\nthe first from 100 on is 300, at position 3\nin both: 9\nin both: 300\n",
-    # Those four ids, and a fifth with the code 4: four codes of 9 bits take 5 bytes after the byte with their width.
+    "examples/id_set.c": "in both: 9\nin both: 300\n",
+    # Byte 0, the first id 7 as a number, and a group of the codes 1, 0, 289 and 4 of 7, 9, 10, 300 and 305: a byte with their width 9, and 36 bits.
     "examples/growing_set.c": "4 and 1 ids in 8 bytes\nleft: 10\nleft: 305\n",
     # Row r costs 5000 and 37 * r, modulo 1000. Since 37 * 973 is 36001, each price from 5000 to 5999 is there once, and 1 more is 27 rows before.
     # 5100 is in row 300. Each block and each group has a price more than 511 above the least, and so 10 bits. The column has byte 0, 2 bytes for

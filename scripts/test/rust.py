@@ -24,11 +24,11 @@ TARGET = f"{archives.OUT}/target"
 # The programs of rust/examples/ and what they print, worked by hand.
 EXAMPLES = {
     # Gaps of 3: two bits each, and so 2 * 16 bytes.
-    "block": "128 ids in 32 bytes\n",
+    "block": f"32 bytes for {[*range(0, 384, 3)]}\n",
     # Gaps of 2 and 4 in turn: one less are 1 and 3, two bits each, and so 2 * 16 bytes for each block of 128.
     "posting_list": "300 numbers: [2, 2] bits, 64 bytes, 44 numbers as they are\n",
-    # The bytes are those of docs/FORMAT.md; 300 is at position 3.
-    "set": "4 ids in 7 bytes, from 100 on: Some((3, 300))\nin both: [9, 300]\n",
+    # 300 is at position 3.
+    "set": "from 100 on: Some((3, 300)), in both: [9, 300]\n",
     # 199 and 205 are below 210.
     "column": "row 2: Some(205)\nrows below 210: [1, 2]\n",
 }
