@@ -16,7 +16,7 @@ BELIEVED = [it for it in re.findall(r"(?m)^(\w+)[^:\n]*:", text_of("crates.txt")
 USED = [it for it in BELIEVED if it not in ("bitpacking_register", "bitpack_groups", "bitpack_uses")]
 # The most lines of definitions to believe. If there are fewer, it is lowered.
 MOST = 1693
-# What laws and clauses say in full but for which fault is first: the faults, the readers, and what `of_tested` requires. By crate and file.
+# What laws and clauses determine but for which fault is first: the faults and the readers. And what only `from_parts` requires. By crate and file.
 BY_LAWS = {
     "bitpack_lists.Version1": ["fault1"],
     "bitpack_lists.Version2": ["fault2"],
@@ -135,7 +135,7 @@ def lines_to_believe():
     yield from (f"specs/ of {crate} has no {name} in {file}" for crate, file, name in sorted(taken - definitions().keys()))
     for crate in USED:
         counts = [sum(map(len, closed(cited([crate]), it).values())) for it in (frozenset(), taken)]
-        if not re.search(row := rf"`{crate}`\| {counts[0]}\| {counts[1]}$", text, re.M):
+        if not re.search(row := rf"`{crate}`\| {counts[0]:,}\| {counts[1]:,}$", text, re.M):
             yield f"{PAGE} lacks the row {row[:-1]}".replace("\\", "")
     if not re.search(rf"\b{MOST:,}\s+lines", text):
         yield f"{PAGE} does not say that there are {MOST:,} lines of definitions to believe"
