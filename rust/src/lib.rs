@@ -95,8 +95,9 @@ pub trait BitPacker: Sized + Clone + Copy {
     ///
     /// # Panics
     ///
-    /// In this order: if `num_bits` is above 32, if `decompressed` is not `BLOCK_LEN` long, if `compressed` is shorter than
-    /// `compressed_block_size(num_bits)`, or if a value does not fit `num_bits` bits. Nothing is written then.
+    /// In this order: if `num_bits` is above 32, if `decompressed` is not `BLOCK_LEN` long, or if `compressed` is shorter than
+    /// `compressed_block_size(num_bits)`; with debug assertions also if a value does not fit `num_bits` bits. Nothing is written then.
+    /// Without them the bytes of a block with such a value are unspecified; those after them are unchanged.
     ///
     /// ```
     /// use bitpacking::{BitPacker, BitPacker1x};

@@ -34,7 +34,7 @@ EXAMPLES = {
 }
 PROGRAM = "block"
 # The tests that run under valgrind, by parts of their names.
-FILLING = ["column_reading", "column_searching", "column_appending", "set_combining::two_sets", "set_iter"]
+FILLING = ["column_reading", "column_searching", "column_appending", "set_combining::two_sets", "set_iter", "do_not_fit"]
 MANIFEST = '[package]\nname = "{}"\nversion = "0.0.0"\nedition = "2024"\n\n[dependencies]\n{}\n'
 
 
@@ -73,15 +73,15 @@ def tests():
 
 
 def in_a_release():
-    """Tests in a release, whose indexes are not tested: deep trees of queries, and under valgrind, which tests each access to memory, those that
-    fill vectors and slices."""
+    """Tests in a release, whose indexes and values are not tested: deep trees of queries, packers, and under valgrind, which tests each access
+    to memory, those that fill vectors and slices or pack values that do not fit."""
     done = cargo("test", "--profile", "quick", "--lib", "--no-run")
     named = re.search(r"Executable .* \((.+)\)", done.stderr)
     if not named:
         yield "tests in a release", failed(done) or f"no program is named: {done.stderr[-2000:]}"
         return
     program = os.path.join(ROOT, named[1])
-    yield "deep trees in a release", tested(run(program, "set_query"))
+    yield "deep trees and packers in a release", tested(run(program, "set_query", "packers"))
     if missing("valgrind"):
         leave_out("tests under valgrind", "since there is no valgrind")
     else:
