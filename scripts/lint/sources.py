@@ -23,7 +23,9 @@ CALLS = {
     f"{LISTS}/opened/tail.rt": "value_in_tail read_one; read_tail read_words",
     f"{PACKERS}/bit_packer.rt": "; ".join(f"{call} {re.match('[a-z]+(_bits)?', call)[0]}_kind" for call in NINE),
     **{
-        f"{PACKERS}/bitpacker{lanes}x.rt": "; ".join(f"{kind} {call}" for kind, call in [*BY_KIND.items(), ("pack_counted", "pack_unmeasured")])
+        f"{PACKERS}/bitpacker{lanes}x.rt": "; ".join(
+            f"{kind} {call}" for kind, call in [*BY_KIND.items(), ("pack_counted", "pack_unmeasured")]
+        )
         for lanes in (1, 4, 8)
     },
 }

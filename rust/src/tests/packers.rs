@@ -212,8 +212,7 @@ fn panics<P: Pack>(packer: &P, kind: Kind) {
     assert_eq!(unpacked(4 * len - 1, len, 32), format!("Compressed array seems too small. ({} < {}) ", 4 * len - 1, 4 * len));
 }
 
-/// The bytes of codes of any size, as 0.9.3 writes them: the bits of a code above the width are set in the words that the code lies in, beside those of
-/// other codes.
+/// The bytes of codes of any size, as 0.9.3 writes them: the bits of a code above the width are set beside the codes after it.
 #[cfg(not(debug_assertions))]
 fn bytes_of(codes: &[u32], width: usize) -> Vec<u8> {
     let lanes = codes.len() / 32;
