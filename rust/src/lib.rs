@@ -53,6 +53,8 @@ mod index;
 #[cfg(feature = "std")]
 mod io_errors;
 mod iterator;
+#[cfg(level_v3)]
+mod level;
 mod packers;
 pub mod ranked;
 mod room;
