@@ -39,7 +39,7 @@ fn is_held_down() -> bool {
 
 /// Whether the processor has all features of the second copy, and the system saves the registers of AVX.
 #[allow(unused_unsafe)]
-fn has_features() -> bool {
+pub(crate) fn has_features() -> bool {
     const XSAVE_AVX_POPCNT: u32 = 1 << 26 | 1 << 27 | 1 << 28 | 1 << 23;
     const BMI1_AVX2_BMI2: u32 = 1 << 3 | 1 << 5 | 1 << 8;
     const LZCNT: u32 = 1 << 5;

@@ -83,7 +83,7 @@ pub trait BitPacker: Sized + Clone + Copy {
     /// How many values a block has.
     const BLOCK_LEN: usize;
 
-    /// Returns the packer. Its calls run the fastest code for this processor.
+    /// Returns the packer. On x86-64 the calls of `BitPacker8x` use AVX2 if the processor has it; all others use the registers of the target.
     ///
     /// ```
     /// use bitpacking::{BitPacker, BitPacker8x};

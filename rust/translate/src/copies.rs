@@ -1,7 +1,7 @@
 //! The two copies of a file: the functions of the second one have the features of its level, and some of the first one call it.
 //!
-//! Rust gives features to a free function or an inherent method, which is `unsafe` then, and to no method of a trait. Such a method is always inlined, into
-//! functions with the features, or has a function with them inside.
+//! Rust gives features to a free function or an inherent method, which is `unsafe` then, and to no function of a trait. Such a one is always inlined,
+//! into functions with the features, or has a function with them inside.
 
 use std::fmt::Write;
 
@@ -38,17 +38,19 @@ pub fn second(text: &str, module: &str, file: &str) -> Result<String, Wrong> {
     for function in functions(&tokens) {
         let end = close(&tokens, function.body);
         let is_called = CALLED.contains(&((module, file), function.name));
-        if function.of_trait && function.is_never_inlined {
+        let is_method = tokens[function.given..end].iter().any(|it| it.is("self") || it.is("Self"));
+        if function.of_trait && !function.is_always_inlined && !is_method {
             apart(&tokens, &function, &mut changes);
             continue;
         }
         if !function.of_trait && (!function.is_always_inlined || is_called) {
+            changes.push((function.from, 0, format!("#[target_feature(enable = \"{FEATURES}\")]\n")));
             if is_called {
-                let inlined = (function.from..function.keyword).find(|it| phrase(&tokens, *it, "# [ inline ( always ) ]").is_some());
+                let inlined =
+                    (function.from..function.keyword).find(|it| phrase(&tokens, *it, "# [ inline ( always ) ]").is_some());
                 let inlined = inlined.ok_or_else(|| tokens[function.keyword].wrong("it is not always inlined"))?;
                 changes.push((inlined, close(&tokens, inlined + 1) + 1 - inlined, "#[inline]".into()));
             }
-            changes.push((function.from, 0, format!("#[target_feature(enable = \"{FEATURES}\")]\n")));
             changes.push((function.keyword, 0, "unsafe ".into()));
         }
         changes.push((function.body + 1, 0, " unsafe {".into()));
@@ -171,14 +173,19 @@ fn item_start(tokens: &[Token], keyword: usize) -> usize {
     code_from(tokens, before.map_or(0, |it| it + 1))
 }
 
-/// A method that is not inlined calls a function with the features, which has its body and is inside it.
+/// A function of a trait that may be compiled by itself calls one with the features, which has its body and is inside it.
 fn apart(tokens: &[Token], function: &Function, changes: &mut Vec<Change>) {
-    let Function { name, from, keyword, given, body, .. } = *function;
+    let Function { name, from, keyword, given, body, is_never_inlined, .. } = *function;
     let head: String = tokens[keyword..body].iter().map(|it| it.text).collect();
     let head = head.replacen(name, "apart", 1);
     let (types, names) = (types(tokens, function), names(tokens, given).join(", "));
-    changes.push((from, close(tokens, from + 1) + 1 - from, "#[inline(always)]".into()));
-    changes.push((body + 1, 0, format!("\n#[inline(never)]\n#[target_feature(enable = \"{FEATURES}\")]\nunsafe {head}{{ unsafe {{")));
+    if is_never_inlined {
+        changes.push((from, close(tokens, from + 1) + 1 - from, "#[inline(always)]".into()));
+    } else {
+        changes.push((from, 0, "#[inline(always)]\n".into()));
+    }
+    let never = if is_never_inlined { "#[inline(never)]\n" } else { "" };
+    changes.push((body + 1, 0, format!("\n{never}#[target_feature(enable = \"{FEATURES}\")]\nunsafe {head}{{ unsafe {{")));
     changes.push((close(tokens, body), 0, format!("}} }}\nunsafe {{ apart{types}({names}) }}\n")));
 }
 
@@ -191,7 +198,8 @@ fn over(tokens: &[Token], function: &Function, module: &str, of: &str) -> String
         text += "use crate::v3::bitpacking::{Counted as _, Unmeasured as _};\n";
     }
     let names = names.join(", ");
-    writeln!(text, "return cross(unsafe {{ crate::v3::{module}::{of}::{name}{types}({names}) }});\n}}").expect("a string has room");
+    writeln!(text, "return cross(unsafe {{ crate::v3::{module}::{of}::{name}{types}({names}) }});\n}}")
+        .expect("a string has room");
     text
 }
 

@@ -60,11 +60,7 @@ pub const ENTRIES: [Entries; 24] = [
     entries(("sets", "in_place.rt"), "in_place", &["retain", "remove", "add", "add_to", "retain_if"]),
     entries(("sets", "encoding.rt"), "encoding", &["encode", "encode_to", "encoded_len"]),
     entries(("sets", "appending.rt"), "appending", &["append", "append_to"]),
-    entries(
-        ("sets", "id_set.rt"),
-        "IdSet",
-        &["contains", "rank", "select", "seek", "append_to", "copy_to", "copy_range"],
-    ),
+    entries(("sets", "id_set.rt"), "IdSet", &["contains", "rank", "select", "seek", "append_to", "copy_to", "copy_range"]),
     entries(("sets", "query.rt"), "Query", &["next_ids"]),
     entries(("sets", "query.rt"), "query", &["query_to"]),
     entries(("sets", "encoding/order.rt"), "encoding::order", &["first_unsorted", "test_pushed"]),

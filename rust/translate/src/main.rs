@@ -65,11 +65,16 @@ fn in_rust(source: &str, module: Module, tests_indexes: bool) -> Result<String, 
     Ok(made)
 }
 
-/// Whether processors of the target may have more than it asks for, of what the second copy has.
-fn gains_by_level() -> bool {
+/// Whether the build has a second copy: processors of the target may have features of that copy that the target lacks, and no
+/// `--cfg bitpacking_one_copy` was given, for a library that chooses a level itself.
+fn has_two_copies() -> bool {
     let has = |name: &str, value: &str| env::var(name).is_ok_and(|it| it.split(',').any(|it| it == value));
     let features = "CARGO_CFG_TARGET_FEATURE";
-    has("CARGO_CFG_TARGET_ARCH", "x86_64") && has(features, "sse2") && !levels::FEATURES.split(',').all(|it| has(features, it))
+    let lacks_some = !levels::FEATURES.split(',').all(|it| has(features, it));
+    has("CARGO_CFG_TARGET_ARCH", "x86_64")
+        && has(features, "sse2")
+        && lacks_some
+        && env::var("CARGO_CFG_BITPACKING_ONE_COPY").is_err()
 }
 
 fn main() -> ExitCode {
@@ -81,7 +86,7 @@ fn main() -> ExitCode {
             println!("cargo::rerun-if-changed={}", crates.display());
             println!("cargo::rerun-if-changed={}", Path::new(&package).join("rust/translate/src").display());
             println!("cargo::rustc-check-cfg=cfg(level_v3)");
-            let twice = gains_by_level();
+            let twice = has_two_copies();
             if twice {
                 println!("cargo::rustc-cfg=level_v3");
             }
