@@ -134,6 +134,7 @@ macro_rules! parts {
 
 parts!(columns sets);
 
+// REQUIRES: the other copy has the same ids, since it reads the same bytes.
 impl<T: crate::sets::AsSet> v3::sets::AsSet for T {
     #[inline(always)]
     fn as_set(&self) -> v3::sets::IdSet<'_> {
@@ -141,6 +142,7 @@ impl<T: crate::sets::AsSet> v3::sets::AsSet for T {
     }
 }
 
+// REQUIRES: the other copy has the same word, since it reads the same bytes.
 impl<T: crate::ranking::AsTerm> v3::ranking::AsTerm for T {
     #[inline(always)]
     fn ids(&self) -> v3::sets::IdSet<'_> {

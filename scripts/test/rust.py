@@ -108,7 +108,9 @@ def losses(program):
         caller = line if line.endswith(">:") else caller
         if "bitpacking::v3::" in caller:
             inside += "%ymm" in line
-            found.update(it for it in re.findall(r"\b(?:call|jmp) +[0-9a-f]+ <(.+)>$", line) if "::core_arch::" in it or "bitpacking::" in it)
+            found.update(
+                it for it in re.findall(r"\b(?:call|jmp) +[0-9a-f]+ <(.+)>$", line) if "::core_arch::" in it or "bitpacking::" in it
+            )
     lost = sorted(it for it in found if "bitpacking::v3::" not in it and not it.lstrip("<").startswith(SHARED))
     return "\n".join(lost[:20]) or (None if inside > 1000 else f"{inside} of its instructions have registers of 256 bits")
 

@@ -1,5 +1,5 @@
 //! The vectors of the second copy of the modules, which has AVX2.
-// These files are modules of `simd` too, where the target may have less.
+// These files are modules of `simd` too, for what the target has.
 #![allow(clippy::duplicate_mod)]
 
 #[path = "eight_avx2.rs"]
