@@ -7,6 +7,8 @@ mod column_model;
 mod column_packing;
 mod column_reading;
 mod column_searching;
+#[cfg(level_v3)]
+mod level;
 mod packers;
 mod ranked;
 mod set_combining;

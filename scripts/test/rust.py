@@ -3,6 +3,7 @@
 
 - its tests, the examples of its comments, and the programs of rust/examples/; clippy and rustdoc; the crate without the standard library;
 - that cargo can publish its package, and builds that alone;
+- that both copies of the modules run, and what the second one calls;
 - programs outside the repository: one that takes the crate from a git repository, and is built of what `cargo vendor` wrote; one that gets it
   through another crate, which asks for 0.9 of crates.io, by `[patch.crates-io]`. Nothing is fetched: the folder of cargo is empty.
 """
@@ -18,6 +19,7 @@ from common import ROOT, leave_out, missing, reported, run, source
 import archives
 import by_cargo
 from files import failed, other, printed, written
+import levels
 import unproved
 
 TARGET = f"{archives.OUT}/target"
@@ -33,8 +35,10 @@ EXAMPLES = {
     "column": "row 2: Some(205)\nrows below 210: [1, 2]\n",
 }
 PROGRAM = "block"
+# What both copies of the modules share, or the second one calls by a trait: none of it has vectors.
+SHARED = ("bitpacking::growing::", "bitpacking::sets::operation::", "bitpacking::ranking::term::")
 # The tests that run under valgrind, by parts of their names.
-FILLING = ["column_reading", "column_searching", "column_appending", "set_combining::two_sets", "set_iter"]
+FILLING = ["column_reading", "column_searching", "column_appending", "set_combining::two_sets", "set_iter", "do_not_fit"]
 MANIFEST = '[package]\nname = "{}"\nversion = "0.0.0"\nedition = "2024"\n\n[dependencies]\n{}\n'
 
 
@@ -73,19 +77,42 @@ def tests():
 
 
 def in_a_release():
-    """Tests in a release, whose indexes are not tested: deep trees of queries, and under valgrind, which tests each access to memory, those that
-    fill vectors and slices."""
+    """Tests in a release, whose indexes and values are not tested: by both copies of the modules that have two, on a processor without AVX2, and
+    under valgrind, which tests each access to memory, those that fill vectors and slices or pack values that do not fit."""
     done = cargo("test", "--profile", "quick", "--lib", "--no-run")
     named = re.search(r"Executable .* \((.+)\)", done.stderr)
     if not named:
         yield "tests in a release", failed(done) or f"no program is named: {done.stderr[-2000:]}"
         return
     program = os.path.join(ROOT, named[1])
-    yield "deep trees in a release", tested(run(program, "set_query"))
+    yield "tests in a release", tested(run(program))
+    yield "tests in a release of the first copy", tested(run(program, env=dict(os.environ, BITPACKING_FIRST_COPY="1")))
+    yield "what the second copy calls", losses(program)
+    if missing(levels.OTHERS):
+        leave_out("tests on a processor without AVX2", f"since there is no {levels.OTHERS}")
+    else:
+        # It ends at an instruction that the processor lacks.
+        old = [levels.OTHERS, "-cpu", "Nehalem", program, "--skip", "simd::v3"]
+        yield "tests on a processor without AVX2", tested(run(*old, "level", "packers::each_block", "set_combining::two_sets"))
     if missing("valgrind"):
         leave_out("tests under valgrind", "since there is no valgrind")
     else:
         yield "tests under valgrind", tested(run("valgrind", "--quiet", "--error-exitcode=9", program, *FILLING))
+
+
+def losses(program):
+    """The functions without features that the second copy of the modules calls in a program, other than those of Rust's library, or None. There an
+    operation on a vector is a call, if it was not compiled into a function with its features."""
+    caller, found, inside = "", set(), 0
+    for line in run("objdump", "-d", "-C", "--no-show-raw-insn", program).stdout.splitlines():
+        caller = line if line.endswith(">:") else caller
+        if "bitpacking::v3::" in caller:
+            inside += "%ymm" in line
+            found.update(
+                it for it in re.findall(r"\b(?:call|jmp) +[0-9a-f]+ <(.+)>$", line) if "::core_arch::" in it or "bitpacking::" in it
+            )
+    lost = sorted(it for it in found if "bitpacking::v3::" not in it and not it.lstrip("<").startswith(SHARED))
+    return "\n".join(lost[:20]) or (None if inside > 1000 else f"{inside} of its instructions have registers of 256 bits")
 
 
 def tested(done):
