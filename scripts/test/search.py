@@ -97,16 +97,21 @@ int rename(const char *from, const char *to) {
 # What the program in C is linked with so that it says how many documents each word has that it ranks by.
 RANKING = """#include <stdio.h>
 #include "bitpacking.h"
-#define SAYS(name, given, ...)                                                                     \\
-    ptrdiff_t __real_bitpacking_##name given;                                                      \\
-    ptrdiff_t __wrap_bitpacking_##name given {                                                     \\
-        for (size_t i = 0; i < len; i++) fprintf(stderr, "ranked %zu\\n", bitpacking_set_len(&terms[i].set)); \\
-        return __real_bitpacking_##name(__VA_ARGS__);                                              \\
-    }
-SAYS(best, (const bitpacking_term *terms, size_t len, const uint8_t *a, size_t b, size_t c, bitpacking_walk *d, size_t e, bitpacking_scored *f, size_t g),
-     terms, len, a, b, c, d, e, f, g)
-SAYS(best_among, (const uint32_t *a, size_t b, const bitpacking_term *terms, size_t len, const uint8_t *c, size_t d, bitpacking_scored *e, size_t f),
-     a, b, terms, len, c, d, e, f)
+static void say(const bitpacking_term *terms, size_t len) {
+    for (size_t i = 0; i < len; i++) fprintf(stderr, "ranked %zu\\n", bitpacking_set_len(&terms[i].set));
+}
+ptrdiff_t __real_bitpacking_best(const bitpacking_term *, size_t, const uint8_t *, size_t, size_t, bitpacking_walk *, size_t, bitpacking_scored *, size_t);
+ptrdiff_t __wrap_bitpacking_best(const bitpacking_term *terms, size_t len, const uint8_t *classes, size_t documents, size_t at_least,
+                                 bitpacking_walk *walks, size_t walks_len, bitpacking_scored *found, size_t room) {
+    say(terms, len);
+    return __real_bitpacking_best(terms, len, classes, documents, at_least, walks, walks_len, found, room);
+}
+ptrdiff_t __real_bitpacking_best_among(const uint32_t *, size_t, const bitpacking_term *, size_t, const uint8_t *, size_t, bitpacking_scored *, size_t);
+ptrdiff_t __wrap_bitpacking_best_among(const uint32_t *ids, size_t ids_len, const bitpacking_term *terms, size_t len, const uint8_t *classes,
+                                       size_t documents, bitpacking_scored *found, size_t room) {
+    say(terms, len);
+    return __real_bitpacking_best_among(ids, ids_len, terms, len, classes, documents, found, room);
+}
 """
 WRAPPED = "-Wl,--wrap=bitpacking_best,--wrap=bitpacking_best_among"
 # Queries whose first word that counts is not the rarest, by the corpus.
