@@ -3,10 +3,12 @@
 
 - its tests, the examples of its comments, and the programs of rust/examples/; clippy and rustdoc; the crate without the standard library;
 - that cargo can publish its package, and builds that alone;
+- that a build translates the sources of the crates again after one of them changed;
 - programs outside the repository: one that takes the crate from a git repository, and is built of what `cargo vendor` wrote; one that gets it
   through another crate, which asks for 0.9 of crates.io, by `[patch.crates-io]`. Nothing is fetched: the folder of cargo is empty.
 """
 import functools
+import glob
 import os
 import re
 import subprocess
@@ -17,7 +19,7 @@ sys.path.insert(1, f"{sys.path[0]}/..")
 from common import ROOT, leave_out, missing, reported, run, source
 import archives
 import by_cargo
-from files import failed, other, printed, written
+from files import bytes_of, failed, other, printed, written
 import unproved
 
 TARGET = f"{archives.OUT}/target"
@@ -143,12 +145,24 @@ def vendored(folder):
     yield "cargo vendor", failed(done) or ran(f"{folder}/it", EXAMPLES[PROGRAM], CARGO_HOME=f"{folder}/home")
 
 
+def changed(folder):
+    """A source of a crate that changes after a build, as a name and what is wrong, or None: the next build has its last line."""
+    unproved.copied(folder)
+    line, built = "// It changed.", lambda: called("check", "--offline", "--locked", folder=folder, CARGO_TARGET_DIR=f"{folder}/target")
+    yield "cargo check", failed(built())
+    with open(f"{folder}/crates/bitpack_sets/src/pairing.rt", "a", encoding="utf-8") as file:
+        file.write(f"{line}\n")
+    done, made = built(), glob.glob(f"{folder}/target/debug/build/bitpacking-*/out/sets/pairing.rs")
+    yield "a source that changed is translated again", failed(done) or other([bytes_of(it).decode().count(line) for it in made], [1])
+
+
 def checks():
     yield from tests()
     yield from in_a_release()
     with tempfile.TemporaryDirectory(prefix="rust-") as folder:
         yield from packed(f"{folder}/packed")
         yield from vendored(f"{folder}/vendored")
+        yield from changed(f"{folder}/changed")
         yield "a crate that asks for 0.9 of crates.io", through_another(f"{folder}/through", ROOT)
 
 
