@@ -3,6 +3,8 @@
 
 - its tests, the examples of its comments, and the programs of rust/examples/; clippy and rustdoc; the crate without the standard library;
 - that cargo can publish its package, and builds that alone;
+- random calls, beside models of the standard library: rust/fuzz/random.rs, which runs as many rounds as it is asked for;
+- how many instructions some calls run: scripts/test/instructions.py;
 - that a build translates the sources of the crates again after one of them changed;
 - programs outside the repository: one that takes the crate from a git repository, and is built of what `cargo vendor` wrote; one that gets it
   through another crate, which asks for 0.9 of crates.io, by `[patch.crates-io]`. Nothing is fetched: the folder of cargo is empty.
@@ -20,6 +22,7 @@ from common import ROOT, leave_out, missing, reported, run, source
 import archives
 import by_cargo
 from files import bytes_of, failed, other, printed, written
+import instructions
 import unproved
 
 TARGET = f"{archives.OUT}/target"
@@ -145,6 +148,13 @@ def vendored(folder):
     yield "cargo vendor", failed(done) or ran(f"{folder}/it", EXAMPLES[PROGRAM], CARGO_HOME=f"{folder}/home")
 
 
+def random():
+    """Random calls, as a name and what is wrong, or None. Both damaged bytes that open and those that do not have to be among them."""
+    done = cargo("run", "--quiet", "--release", "--bin", "random", "--", "400", "0", package="rust/fuzz")
+    counted = re.search(r"^damaged bytes: [1-9]\d+ opened, [1-9]\d+ did not$", done.stdout, re.M)
+    yield "random calls", None if done.returncode == 0 and counted else f"{done.stdout[-300:]}{done.stderr[-3000:]}"
+
+
 def changed(folder):
     """A source of a crate that changes after a build, as a name and what is wrong, or None: the next build has its last line."""
     unproved.copied(folder)
@@ -159,6 +169,8 @@ def changed(folder):
 def checks():
     yield from tests()
     yield from in_a_release()
+    yield from random()
+    yield from instructions.checks()
     with tempfile.TemporaryDirectory(prefix="rust-") as folder:
         yield from packed(f"{folder}/packed")
         yield from vendored(f"{folder}/vendored")
