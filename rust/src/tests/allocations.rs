@@ -54,7 +54,7 @@ unsafe impl GlobalAlloc for Counting {
 #[global_allocator]
 static ALLOCATOR: Counting = Counting;
 
-/// Runs a call, and tests that it allocates at most so often and so many bytes.
+/// Runs a call, and tests how often it allocates at most, and how many bytes.
 fn within<R>(times: usize, bytes: usize, name: &str, call: impl FnOnce() -> R) {
     COUNTED.set((0, 0));
     let result = black_box(call());
@@ -294,7 +294,7 @@ fn ranking() {
     let documents: Vec<u32> = (0..1000).collect();
     let words = 3 * (size_of::<Term<'_>>() + size_of::<ranking::Term<'_>>());
     let (found, walks) = (10 * size_of::<Scored>(), 3 * size_of::<ranking::Walk>());
-    // All three have one of 105 documents; room is for those of the shortest set, and is freed.
+    // All three have one of 105 documents. There is room first for as many as the shortest set has.
     let common = 4 * (sets[2].len() + 200_000usize.div_ceil(105)) + 3 * size_of::<&IdSet>();
     nothing! { Term::new(&sets[0], &counts[0], &table).ok(); }
     each! {

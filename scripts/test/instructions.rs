@@ -1,4 +1,4 @@
-//! Runs a call, for scripts/test/instructions.py to count its instructions: `instructions NAME`. It prints a number of the answer.
+//! Runs a call, for instructions.py to count its instructions: `instructions NAME`. It prints a number of the answer.
 
 use std::env;
 
