@@ -1,5 +1,5 @@
 #!/usr/bin/env python3
-"""Counts the instructions of four calls of the Rust crate by valgrind, which is the same number on each machine: instructions.rs, a program over the
+"""Counts the instructions of some calls of the Rust crate by valgrind, which is the same number on each machine: instructions.rs, a program over the
 crate in a release for the default target. A call may run as many as were recorded here, times its limit. After a change that makes a call
 faster, or with another compiler, write down what it prints.
 
@@ -16,7 +16,14 @@ from files import bytes_of, failed, written
 
 COMPILER = "1.95"
 # By call, the instructions, and the limit: of the last two it is near enough to see indexes or slices that are tested again.
-RECORDED = {"ranking": (684134, 1.3), "advancing": (7203697, 1.3), "getting": (4302723, 1.15), "unpacking": (110284, 1.08)}
+RECORDED = {
+    "ranking": (684134, 1.3),
+    "advancing": (7203697, 1.3),
+    "seeking": (698970, 1.3),
+    "querying": (22113922, 1.3),
+    "getting": (4302723, 1.15),
+    "unpacking": (110284, 1.08),
+}
 
 # The package of the program, with the profile of the crate.
 MANIFEST = f"""\

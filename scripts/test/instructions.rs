@@ -4,7 +4,7 @@ use std::env;
 
 use bitpacking::column::ColumnBuf;
 use bitpacking::ranked::{CLASSES, Term, best};
-use bitpacking::set::IdSetBuf;
+use bitpacking::set::{Cursor, IdSetBuf, Query};
 
 /// Valgrind counts what runs in this function.
 #[inline(never)]
@@ -40,6 +40,29 @@ fn advancing() -> u64 {
     })
 }
 
+/// The ids that a cursor finds if it skips 1,000 chunks at a time.
+fn found(mut cursor: impl Cursor) -> u64 {
+    let mut sum = 0;
+    while let Some(id) = cursor.value() {
+        sum += u64::from(id);
+        cursor.seek(id + (1000 << 16));
+    }
+    sum
+}
+
+/// A cursor over a set of 40,000 chunks.
+fn seeking() -> u64 {
+    let set: IdSetBuf = (0..160_000).map(|k| k << 14).collect();
+    counted(&mut || found(set.cursor()))
+}
+
+/// A cursor over the ids that this set and another have.
+fn querying() -> u64 {
+    let (one, other): (IdSetBuf, IdSetBuf) = ((0..160_000).map(|k| k << 14).collect(), (0..80_000).map(|k| k << 15).collect());
+    let query = Query::from(&one) & &other;
+    counted(&mut || found(query.ids().unwrap()))
+}
+
 /// Values of a plain column, one by one.
 fn getting() -> u64 {
     let column: ColumnBuf = (0..100_000).map(|k| k * 301 % 9173).collect();
@@ -58,6 +81,8 @@ fn main() {
     let answer = match name.as_str() {
         "ranking" => ranking(),
         "advancing" => advancing(),
+        "seeking" => seeking(),
+        "querying" => querying(),
         "getting" => getting(),
         "unpacking" => unpacking(),
         _ => panic!("no call has the name {name}"),
