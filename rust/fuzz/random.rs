@@ -44,8 +44,7 @@ impl Numbers {
 
 /// Increasing ids: few, of an array, of numbers and blocks, and runs; at either end of all ids, or between.
 fn ids(numbers: &Numbers) -> Vec<u32> {
-    let forms = [(0, 1), (1, 9), (90, 200), (127, 1 << 31), (400, u32::MAX), (1500, 200_000), (4000, 9000), (3000, 70_000)];
-    let (count, room) = numbers.of(&forms);
+    let (count, room) = numbers.of(&[(0, 1), (1, 9), (90, 200), (127, 1 << 31), (400, u32::MAX), (1500, 200_000), (4000, 9000)]);
     let base = numbers.of(&[0, 0, 65_530, 1 << 20, u32::MAX]).min(u32::MAX - room);
     let mut ids: BTreeSet<u32> = (0..count).map(|_| base + numbers.below(room as usize + 1) as u32).collect();
     for _ in 0..numbers.of(&[0, 0, 1, 3]) {
@@ -73,7 +72,7 @@ fn values(numbers: &Numbers, kind: Kind) -> Vec<u32> {
 /// The same bytes in another type are the same set.
 fn held<B: StableBytes>(bytes: B, set: &IdSetBuf, ids: &[u32]) {
     let held = IdSetBuf::open(bytes).unwrap();
-    assert!(held == *set && *held == **set && held.to_owned() == *set && held.iter().eq(ids.iter().copied()));
+    assert!(held == *set && *held == **set && held.iter().eq(ids.iter().copied()));
     let mut taken = held.into_iter();
     assert_eq!((taken.next_back(), taken.next()), (ids.last().copied(), ids.first().filter(|_| ids.len() > 1).copied()));
 }
@@ -145,8 +144,7 @@ fn growing(numbers: &Numbers, ids: &[u32], kind: Kind, values: &[u32]) {
         assert_eq!((builder.push(id), builder.push(id / 3)), (Ok(()), Err(set::Error::NotSorted(k + 1))));
     }
     assert!(at == 0 || set.append(&ids[at - 1..]).err() == Some(set::Error::NotSorted(at)));
-    column.extend(&values[..values.len() / 2]).unwrap();
-    column.push_all(&values[values.len() / 2..]).unwrap();
+    assert_eq!((column.extend(&values[..values.len() / 2]), column.push_all(&values[values.len() / 2..])), (Ok(()), Ok(())));
     assert_eq!(column.push_all(&[u32::MAX, 0]).is_err(), kind == Kind::Sorted);
     assert!(builder.pack() == all && ids.iter().rev().chain(ids).copied().collect::<IdSetBuf>() == all);
     assert!(kind == Kind::Plain || column.pack() == ColumnBuf::pack(kind, values).unwrap());
@@ -250,15 +248,13 @@ fn damaged(numbers: &Numbers, right: &[u8], counts: &mut [usize; 2]) {
         for _ in 0..numbers.of(&[1, 1, 2, 5]) {
             let at = numbers.below(bytes.len().min(numbers.of(&[12, 400, 1 << 20])));
             match numbers.below(6) {
-                0 => bytes[at] = numbers.next() as u8,
-                1 => bytes.truncate(at + 1),
-                2 => bytes.insert(at, numbers.next() as u8),
+                0 => bytes.truncate(at + 1),
+                1 => bytes.insert(at, numbers.next() as u8),
                 _ => bytes[at] ^= 1 << numbers.below(8),
             }
         }
-        let given = [0, numbers.next(), numbers.next() >> 16, u32::MAX];
-        let set = IdSet::open(&bytes).map(|set| sets::read(&set, &given));
-        let column = Column::open(&bytes).map(|column| columns::read(&column, &given));
+        let set = IdSet::open(&bytes).map(|set| sets::read(&set, &[0, numbers.next(), u32::MAX]));
+        let column = Column::open(&bytes).map(|column| columns::read(&column, &[0, numbers.next(), u32::MAX]));
         counts[usize::from(set.is_ok() || column.is_ok())] += 1;
     }
 }
@@ -270,14 +266,18 @@ fn round(numbers: &Numbers, counts: &mut [usize; 2]) {
     sets::read(&one, &given);
     sets::combine(&one, &other, &given);
     let bytes = one.as_bytes();
-    (held(bytes, &one, &first), held(bytes.to_vec(), &one, &first));
-    (held(Rc::<[u8]>::from(bytes), &one, &first), held(Arc::<[u8]>::from(bytes), &one, &first));
+    held(bytes, &one, &first);
+    held(bytes.to_vec(), &one, &first);
+    held(Rc::<[u8]>::from(bytes), &one, &first);
+    held(Arc::<[u8]>::from(bytes), &one, &first);
     operators(&one, &first, &other, &second);
     both_ends(numbers, &one, &first);
     forward(numbers, one.cursor(), &first);
     queries(numbers);
     ranked(numbers);
-    (chains(numbers, BitPacker1x), chains(numbers, BitPacker4x), chains(numbers, BitPacker8x));
+    chains(numbers, BitPacker1x);
+    chains(numbers, BitPacker4x);
+    chains(numbers, BitPacker8x);
     damaged(numbers, bytes, counts);
     for kind in [Kind::Plain, Kind::Sorted] {
         let values = values(numbers, kind);
