@@ -1,6 +1,6 @@
 #!/usr/bin/env python3
 """Compiles and runs C programs over the archive for all levels of the processor and that of each level: those of examples/, whose output is
-worked by hand, calls.c and ranking.c, and id_sets.c and columns.c over the tables of vectors/. They are C99 with every warning an error,
+worked by hand, calls.c, ranking.c and pages.c, and id_sets.c and columns.c over the tables of vectors/. They are C99 with every warning an error,
 run with little stack, and once more with the address sanitizer. calls.c is also C++11 and C++17. In qemu all run on aarch64, and those that
 read no table on an x86-64 of each level. The header has no warning of gcc or clang, from C99 to C23 and from C++11 to C++20, for 64 and 32
 bits.
@@ -28,6 +28,7 @@ CALLS = "scripts/test/calls.c"
 ID_SETS = "scripts/test/id_sets.c"
 COLUMN_TABLES = "scripts/test/columns.c"
 RANKING = "scripts/test/ranking.c"
+PAGES = "scripts/test/pages.c"
 STACK = 256 << 10  # bytes; the sanitizer needs more
 SANITIZED = ["-fsanitize=address,undefined", "-fno-sanitize-recover=all"]
 # What each compiler is asked for the header, and by language.
@@ -74,6 +75,7 @@ PROGRAMS = {
     ID_SETS: "360 sets, 2052 refusals, 102 pairs\n",
     COLUMN_TABLES: "727 columns, 2605 refusals\n",
     RANKING: "all calls\n",
+    PAGES: "all calls\n",
 }
 VECTORS = {ID_SETS: ["id_sets", "refused_id_sets", "combined_id_sets"], COLUMN_TABLES: ["columns", "refused_columns"]}
 

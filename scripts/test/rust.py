@@ -4,10 +4,14 @@
 - its tests, the examples of its comments, and the programs of rust/examples/; clippy and rustdoc; the crate without the standard library;
 - that cargo can publish its package, and builds that alone;
 - that both copies of the modules run, and what the second one calls;
+- random calls, beside models of the standard library: rust/fuzz/random.rs, which runs as many rounds as it is asked for;
+- how many instructions some calls run: scripts/test/instructions.py;
+- that a build translates a source of a crate again after it changed, and that tests see wrong changes;
 - programs outside the repository: one that takes the crate from a git repository, and is built of what `cargo vendor` wrote; one that gets it
   through another crate, which asks for 0.9 of crates.io, by `[patch.crates-io]`. Nothing is fetched: the folder of cargo is empty.
 """
 import functools
+import glob
 import os
 import re
 import subprocess
@@ -18,7 +22,8 @@ sys.path.insert(1, f"{sys.path[0]}/..")
 from common import ROOT, leave_out, missing, reported, run, source
 import archives
 import by_cargo
-from files import failed, other, printed, written
+from files import bytes_of, changed, failed, other, printed, written
+import instructions
 import levels
 import unproved
 
@@ -39,6 +44,14 @@ PROGRAM = "block"
 SHARED = ("bitpacking::growing::", "bitpacking::sets::operation::", "bitpacking::ranking::term::")
 # The tests that run under valgrind, by parts of their names.
 FILLING = ["column_reading", "column_searching", "column_appending", "set_combining::two_sets", "set_iter", "do_not_fit"]
+# By test a wrong change that it sees, of a file: what allocates, or trusts what an iterator says. They are made at once.
+WRONG = {
+    "allocations::reading_a_set": ("rust/src/set/query.rs", "if let [set] = self.sets[..]", "if let [set, _] = self.sets[..]"),
+    "allocations::appending_to_a_set": ("crates/bitpack_sets/src/appending.rt", "append_after(&front, set,", "append_unpacked(set,"),
+    "allocations::reading_a_column": ("rust/src/column/unpacking.rs", "Vec::with_capacity(self.len())", "Vec::new()"),
+    "allocations::ranking": ("rust/src/ranked.rs", "most.min(documents)]", "documents]"),
+    "hints::builders": ("rust/src/set/builder.rs", ".min(MOST - self.ids.len())", ""),
+}
 MANIFEST = '[package]\nname = "{}"\nversion = "0.0.0"\nedition = "2024"\n\n[dependencies]\n{}\n'
 
 
@@ -170,12 +183,45 @@ def vendored(folder):
     yield "cargo vendor", failed(done) or ran(f"{folder}/it", EXAMPLES[PROGRAM], CARGO_HOME=f"{folder}/home")
 
 
+def random():
+    """Random calls, as a name and what is wrong, or None. Both damaged bytes that open and those that do not have to be among them."""
+    done = cargo("run", "--quiet", "--release", "--bin", "random", "--", "400", "0", package="rust/fuzz")
+    counted = re.search(r"^damaged bytes: [1-9]\d+ opened, [1-9]\d+ did not$", done.stdout, re.M)
+    yield "random calls", None if done.returncode == 0 and counted else f"{done.stdout[-300:]}{done.stderr[-3000:]}"
+
+
+def changed_sources(folder):
+    """Changes in a copy, each as a name and what is wrong, or None. A build has the last line of a source that changed after the build before it;
+    and tests see what WRONG changes."""
+    unproved.copied(folder)
+
+    def built(word, *words):
+        return called(word, "--offline", "--locked", *words, folder=folder, CARGO_TARGET_DIR=f"{folder}/target")
+
+    line = "// It changed."
+    yield "cargo check", failed(built("check"))
+    with open(f"{folder}/crates/bitpack_sets/src/pairing.rt", "a", encoding="utf-8") as file:
+        file.write(f"{line}\n")
+    done, made = built("check"), glob.glob(f"{folder}/target/debug/build/bitpacking-*/out/sets/pairing.rs")
+    yield "a source that changed is translated again", failed(done) or other([bytes_of(it).decode().count(line) for it in made], [1])
+    for path, before, after in WRONG.values():
+        yield f"a change of {path}", changed(f"{folder}/{path}", before, after)
+    done = built("test", "--lib", "--", *(f"tests::{name}" for name in WRONG))
+    failing = re.findall(r"^test tests::(\S+) \.\.\. FAILED$", done.stdout, re.M)
+    yield from (
+        (f"{name} sees a wrong change", None if name in failing else f"{done.stdout[-2000:]}{done.stderr[-2000:]}") for name in WRONG
+    )
+
+
 def checks():
     yield from tests()
     yield from in_a_release()
+    yield from random()
+    yield from instructions.checks()
     with tempfile.TemporaryDirectory(prefix="rust-") as folder:
         yield from packed(f"{folder}/packed")
         yield from vendored(f"{folder}/vendored")
+        yield from changed_sources(f"{folder}/changed")
         yield "a crate that asks for 0.9 of crates.io", through_another(f"{folder}/through", ROOT)
 
 
