@@ -61,11 +61,13 @@ def checks(seconds, fuzzer, sanitizer):
         if wrong:
             return
         every = list(seeds())
-        # All seeds once, however long that takes; and others made of some of them, for as long as was asked.
-        for name, some, time in [("all", every, "-runs=0"), ("some", every[::10], f"-max_total_time={seconds}")]:
+        # All seeds once by each copy of the modules, however long that takes; and others made of some of them, for as long as was asked.
+        first = dict(os.environ, BITPACKING_FIRST_COPY="1")
+        times = [("all", every, "-runs=0", os.environ), ("first", every, "-runs=0", first)]
+        for name, some, time, env in [*times, ("some", every[::10], f"-max_total_time={seconds}", os.environ)]:
             written(f"{folder}/{name}", {str(number): seed for number, seed in enumerate(some)})
             limits = [time, f"-max_len={MOST}", "-timeout=60", "-rss_limit_mb=4096", f"-artifact_prefix={folder}/found-"]
-            done = run(f"{folder}/fuzz", *limits, f"{folder}/{name}")
+            done = run(f"{folder}/fuzz", *limits, f"{folder}/{name}", env=env)
             count = max(map(int, re.findall(r"^(?:Done |#)(\d+)\b", done.stdout, re.M)), default=0)
             bad = [bytes_of(f"{folder}/{it}").hex() for it in os.listdir(folder) if it.startswith("found-")]
             yield f"{name} seeds", failed(done) or (f"of the bytes {' '.join(bad)}" if bad else None)

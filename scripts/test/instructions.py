@@ -5,6 +5,7 @@ faster, or with another compiler, write down what it prints.
 
 It is left out without valgrind, or with another minor version of rustc, whose code is another one.
 """
+import os
 import re
 import sys
 import tempfile
@@ -58,7 +59,9 @@ def checks():
         return
     package = f"{by_cargo.OUT}/instructions"
     written(package, {"Cargo.toml": MANIFEST, "src/main.rs": source("scripts/test/instructions.rs")})
-    by_cargo.called("cargo", "build", "--quiet", "--release", "--offline", "--target-dir", f"{package}/target", folder=package)
+    # Of the copy of the modules that each processor runs.
+    env = dict(os.environ, RUSTFLAGS="--cfg bitpacking_one_copy")
+    by_cargo.called("cargo", "build", "--quiet", "--release", "--offline", "--target-dir", f"{package}/target", folder=package, env=env)
     with tempfile.TemporaryDirectory(prefix="instructions-") as folder:
         for name, (recorded, limit) in RECORDED.items():
             found = counted(f"{package}/target/release/instructions", name, folder)

@@ -40,6 +40,7 @@ EXAMPLES = {
     "column": "row 2: Some(205)\nrows below 210: [1, 2]\n",
 }
 PROGRAM = "block"
+FIRST_COPY = {"BITPACKING_FIRST_COPY": "1"}
 # What both copies of the modules share, or the second one calls by a trait: none of it has vectors.
 SHARED = ("bitpacking::growing::", "bitpacking::sets::operation::", "bitpacking::ranking::term::")
 # The tests that run under valgrind, by parts of their names.
@@ -99,7 +100,7 @@ def in_a_release():
         return
     program = os.path.join(ROOT, named[1])
     yield "tests in a release", tested(run(program))
-    yield "tests in a release of the first copy", tested(run(program, env=dict(os.environ, BITPACKING_FIRST_COPY="1")))
+    yield "tests in a release of the first copy", tested(run(program, env=os.environ | FIRST_COPY))
     yield "what the second copy calls", losses(program)
     if missing(levels.OTHERS):
         leave_out("tests on a processor without AVX2", f"since there is no {levels.OTHERS}")
@@ -184,10 +185,12 @@ def vendored(folder):
 
 
 def random():
-    """Random calls, as a name and what is wrong, or None. Both damaged bytes that open and those that do not have to be among them."""
-    done = cargo("run", "--quiet", "--release", "--bin", "random", "--", "400", "0", package="rust/fuzz")
-    counted = re.search(r"^damaged bytes: [1-9]\d+ opened, [1-9]\d+ did not$", done.stdout, re.M)
-    yield "random calls", None if done.returncode == 0 and counted else f"{done.stdout[-300:]}{done.stderr[-3000:]}"
+    """Random calls, by both copies of the modules, each as a name and what is wrong, or None. Both damaged bytes that open and those that do not have
+    to be among them."""
+    for name, variables in ("random calls", {}), ("random calls of the first copy", FIRST_COPY):
+        done = cargo("run", "--quiet", "--release", "--bin", "random", "--", "400", "0", package="rust/fuzz", **variables)
+        counted = re.search(r"^damaged bytes: [1-9]\d+ opened, [1-9]\d+ did not$", done.stdout, re.M)
+        yield name, None if done.returncode == 0 and counted else f"{done.stdout[-300:]}{done.stderr[-3000:]}"
 
 
 def changed_sources(folder):
