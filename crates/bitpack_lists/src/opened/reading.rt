@@ -1,4 +1,4 @@
-//! The skip keys and the blocks of an opened list, each counted in `Reads`.
+//! The blocks of an opened list and their kinds, counted in `Reads`.
 
 ghost use Rattle.std.specs.Prelude.{◌≡◌};
 
@@ -8,10 +8,8 @@ use crate::list_kind::next_kind;
 use bitpacking::{BitPacker, Kind};
 
 impl<'a, P: BitPacker> PackedList<'a, P> {
-    ghost use Rattle.std.specs.Prelude.{◌+◌, ◌*◌, ◌<◌, ◌≤◌, ◌^◌, length, take};
-    ghost use Rattle.bitpacking.specs.Codes.{start, values_of};
-    ghost use Rattle.bitpack_lists.specs.inner.Searching.{IsListBlock, ReadsEntries, block_of_list, blocks_of, kind_of_list, skip_key_of_list};
-    ghost use Rattle.bitpack_lists.specs.inner.BlockCodes.{codes_of_list};
+    ghost use Rattle.std.specs.Prelude.{◌+◌, ◌<◌, ◌≤◌, length, take};
+    ghost use Rattle.bitpack_lists.specs.inner.Searching.{IsListBlock, ReadsEntries, block_of_list, blocks_of, kind_of_list};
 
     /// The kind of a block, which goes on from the skip key of the block before.
     pub(super) fn kind_of_block(&self, block: usize, reads: &mut Reads) -> Kind
