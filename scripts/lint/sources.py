@@ -14,13 +14,13 @@ BY_HAND = {f"crates/{count}/{name}/Proof.antt" for count in COUNTS for name in [
 # The three calls by kind with the counted call of each, and the nine others.
 BY_KIND = {"compress_kind": "pack_counted", "decompress_kind": "unpack_counted", "num_bits_kind": "width_counted"}
 NINE = [call.replace("_kind", kind) for call in BY_KIND for kind in ["", "_sorted", "_strictly_sorted"]]
-# Of what counts, and of the packers' calls, which of the functions named here each calls, in the order of the text, by file.
+# Of what counts, and of the packers' calls, which of the functions named here each calls, in the order of the text, by file. Of the file that
+# has the bytes of lists, each function, and all that it calls.
 CALLS = {
-    f"{LISTS}/blocks/reads.rt": "read_entry record read; read_last record read_one; unpack_block unpack_body read; "
-    "unpack_body record body decompress_kind",
+    f"{LISTS}/blocks/reads.rt": "body; read read_one read_one; bytes to_le_bytes to_le_bytes; write append bytes; of_encoding len; "
+    "skip_key record read_one; unpack_block_as read unpack_body; value_in_tail read_one; read_tail read_words; new; record; "
+    "read_entry record read; unpack_body record body decompress_kind",
     f"{LISTS}/opened.rt": "get value_in_block value_in_tail",
-    f"{LISTS}/opened/reading.rt": "skip_key read_last; unpack_block_as unpack_block",
-    f"{LISTS}/opened/tail.rt": "value_in_tail read_one; read_tail read_words",
     f"{PACKERS}/bit_packer.rt": "; ".join(f"{call} {re.match('[a-z]+(_bits)?', call)[0]}_kind" for call in NINE),
     **{
         f"{PACKERS}/bitpacker{lanes}x.rt": "; ".join(
@@ -42,14 +42,9 @@ MAKERS = {
 }
 # What the file of `Reads` may say of it.
 OWN_READS = r"\bstruct Reads \{|\bimpl (Model for )?Reads \{|\bsize_of::<Reads>\(\)|\bfn new\(\) -> Reads\s*\{\s*Reads \{"
-# The calls of lists that count in no `Reads` of their caller; and what sees the bytes of an opened list, with the functions that may.
-UNCOUNTED = r"(?<!fn )\b(open|get|append_to|encode|decode|upgrade)\b"
-SEEN = r"\b(rest|bytes|packer|read_one|read_words|\w*compress\w*)\b"
-SEEING = {
-    f"{LISTS}/opened.rt": ["open", "of_encoding"],
-    f"{LISTS}/opened/reading.rt": ["skip_key", "unpack_block_as"],
-    f"{LISTS}/opened/tail.rt": ["value_in_tail", "read_tail"],
-}
+OWN_READS += r"|\breads: &mut Reads\b"
+# The calls of lists that lend a new one, and so count for no caller.
+UNCOUNTED = rf"(?<!fn )\b({'|'.join(sorted({name for path in MAKERS if path.startswith(LISTS) for name in MAKERS[path]}))})\b"
 # In the files of columns that count: what reads a mark or unpacks, if not by `Reads`, or sees all bytes; and calls that count for no caller.
 COUNTING = [path for path in MAKERS if path.startswith(COLUMNS)]
 READS_BESIDE = (
@@ -95,11 +90,11 @@ def callee(text, index):
 
 
 def calls_in(text, name, functions):
-    """The loops of the first function of this name, and its calls of these functions, in the order of the text."""
-    found = re.search(rf"\bfn {name}\b[^;{{]*(?={{)", text)
+    """The loops of the first function of this name, and its calls of these functions, or all its calls, in the order of the text."""
+    found = re.search(rf"\bfn {name}\b(?:\[[^\]]*\]|[^;{{])*(?={{)", text)
     body = text[found.end() : end_of_braces(text, found.end())] if found else ""
     its = re.findall(r"\b(for|while|loop)\b|\b(\w+)(?:::<[^()]*>)?\(", body)
-    return " ".join(loop or call for loop, call in its if loop or call in functions)
+    return " ".join(loop or call for loop, call in its if loop or functions is None or call in functions)
 
 
 def proofs_by_hand():
@@ -178,23 +173,26 @@ def reads():
         yield from each(door, bare(OWN_READS, code(door)), r"\b(Reads|Self)\b")
         for path, text in codes(crate, door).items():
             yield from makers(path, text)
+    yield from each(DOORS[LISTS], code(DOORS[LISTS]), r"\bpub(?:\(\w+\))? (\w+): &", "{what} shows bytes to other files")
     for path, text in codes(LISTS).items():
         exported = r"(?m)^pub use [\w:]*(\w|\{[^}]*\});"
         yield from each(path, bare(exported, text), UNCOUNTED, "{fn} names {what}, which counts for no caller")
-        heads = r"(?m)^(use|(pub )?struct)\b[^;}]*[;}]" if path.startswith((f"{LISTS}/opened/", f"{LISTS}/opened.")) else r"(?s).*"
-        yield from each(path, bare(heads, text), SEEN, "{fn} sees {what}", SEEING.get(path, []).__contains__)
     for path, text in {it: code(it) for it in COUNTING}.items():
         yield from each(path, text, NOT_COUNTED, "{what} is not counted")
         yield from each(path, text, LENDING, "{fn} names {what}, which counts for no caller")
 
 
 def calls():
-    wanted = [(path, *its.split(" ", 1)) for path, text in CALLS.items() for its in text.split("; ")]
-    names = {name for _, _, right in wanted for name in right.split()} | {*NINE}
+    door = DOORS[LISTS]
+    wanted = [(path, *its.partition(" ")[::2]) for path, text in CALLS.items() for its in text.split("; ")]
+    names = {name for path, _, right in wanted if path != door for name in right.split()} | {*NINE}
     for path, name, right in wanted:
-        found = calls_in(code(path), name, names)
+        found = calls_in(code(path), name, None if path == door else names)
         if found != right:
-            yield f"{path}: {name} calls {found or 'none'}, and not {right}"
+            yield f"{path}: {name} calls {found or 'none'}, and not {right or 'none'}"
+    listed = [name for path, name, _ in wanted if path == door]
+    if re.findall(r"\bfn (\w+)", code(door)) != listed:
+        yield f"{door}: its functions are not {', '.join(listed)}"
 
 
 if __name__ == "__main__":

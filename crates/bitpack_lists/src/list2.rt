@@ -6,7 +6,7 @@
 //! 20 00 00 00                   the value 32
 //! ```
 
-pub use crate::blocks::reads::Reads;
-pub use crate::opened::{PackedList, intersect};
+pub use crate::blocks::reads::{PackedList, Reads};
+pub use crate::opened::intersect;
 pub use crate::v2::upgrading::upgrade;
 pub use crate::v2::writing::encode;

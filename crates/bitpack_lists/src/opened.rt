@@ -7,38 +7,15 @@ mod in_slice;
 mod intersection;
 mod reading;
 mod search;
-mod tail;
 
-ghost use Rattle.std.specs.Prelude.{◌≡◌, ◌^◌, ◌≤◌, drop};
-ghost use Rattle.bitpacking.specs.Bits.{AreBytes};
-ghost use Rattle.bitpack_lists.specs.Parts.{whole_blocks};
-ghost use Rattle.bitpack_lists.specs.Encodings.{States};
-ghost use Rattle.bitpack_lists.specs.Version2.{tail_start};
+ghost use Rattle.std.specs.Prelude.{◌≡◌};
 
-use crate::blocks::reads::Reads;
-use crate::header::{HEADER_LEN, Header};
+use crate::blocks::reads::{PackedList, Reads};
 use crate::list_error::ListError;
 use crate::list_kind::ListKind;
 use crate::v2::opening::test_version2;
 use bitpacking::{BitPacker, Kind, MAX_BLOCK_LEN};
 pub use intersection::intersect;
-
-/// A packed list whose bytes were tested when it was opened, so that reading it tests nothing again and cannot fail.
-#[derive(Drop)]
-pub struct PackedList<'a, P: BitPacker> {
-    packer: P,
-    kind: ListKind,
-    count: usize,
-    bytes: &'a [u8],
-    // What is after the header, and its end.
-    rest: &'a [u8],
-    tail: &'a [u8],
-    // The bytes have no fault, and so encode a list, which is of this kind and has this count of values.
-    pub ghost are_bytes: { AreBytes bytes.now },
-    ghost few: { count ≤ 2 ^ 28 },
-    ghost states: { States P.lanes bytes.now kind count rest.now },
-    ghost tail_is: { tail.now ≡ drop (tail_start P.lanes (whole_blocks P.lanes count) rest.now) rest.now },
-}
 
 /// A whole block of a list: which it is, and what is packed instead of its values.
 #[derive(Clone, Copy)]
@@ -57,7 +34,7 @@ pub(crate) struct CachedBlock {
 impl<'a, P: BitPacker> PackedList<'a, P> {
     ghost use Rattle.std.specs.Prelude.{length, slice_get, IfOk, None};
     ghost use Rattle.bitpack_lists.specs.Opened.{encoding, kind_of, values};
-    ghost use Rattle.bitpack_lists.specs.Parts.{BeginsWithHeader, FindsFault};
+    ghost use Rattle.bitpack_lists.specs.Parts.{FindsFault};
     ghost use Rattle.bitpack_lists.specs.Encodings.{EncodesNoOther};
     ghost use Rattle.bitpack_lists.specs.Version2.{List2, fault2};
 
@@ -73,24 +50,6 @@ impl<'a, P: BitPacker> PackedList<'a, P> {
     {
         let header = test_version2(&packer, bytes, &mut Reads::new())?;
         Ok(PackedList::of_encoding(packer, header, bytes))
-    }
-
-    // The list of version 2 whose bytes have this header.
-    fn of_encoding(packer: P, header: Header, bytes: &'a [u8]) -> PackedList<'a, P>
-        requires sound { fault2 P.lanes bytes.now ≡ None }
-        requires begins { BeginsWithHeader 2 P.lanes header.kind header.count bytes.now }
-        ensures { encoding result ≡ bytes.now }
-    {
-        let Header { kind, count } = header;
-        let rest = &bytes[HEADER_LEN..];
-        PackedList {
-            packer,
-            kind,
-            count,
-            bytes,
-            rest,
-            tail: &rest[rest.len() - 4 * (count % P::BLOCK_LEN)..],
-        }
     }
 
     /// How many values the list has.

@@ -4,7 +4,7 @@ use Rattle.bitpacking.specs.declared.bit_packer.BitPacker.{Ghosts}
 use Rattle.bitpacking.specs.declared.kind.Kind.{Kind}
 use Rattle.bitpack_lists.specs.declared.opened.ListBlock.{ListBlock}
 use Rattle.bitpack_lists.specs.declared.opened.CachedBlock.{CachedBlock}
-use Rattle.bitpack_lists.specs.declared.opened.PackedList.{PackedList}
+use Rattle.bitpack_lists.specs.declared.blocks.reads.PackedList.{PackedList}
 use Rattle.bitpack_lists.specs.declared.blocks.reads.Reads.{Reads}
 pub use Rattle.bitpack_lists.specs.Opened.{blocks_of, rest_of, value_of}
 use Rattle.bitpack_lists.specs.Search.{HasGrown, in_whole_block}

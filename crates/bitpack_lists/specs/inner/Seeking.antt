@@ -2,7 +2,7 @@
 use Rattle.std.specs.Prelude.{◌≡◌, ℕ, ◌+◌, ◌^◌, ◌<◌, ◌≤◌, List, length, slice_index, Option, IfSome}
 use Rattle.bitpacking.specs.declared.bit_packer.BitPacker.{Ghosts}
 use Rattle.bitpack_lists.specs.declared.opened.ListBlock.{ListBlock}
-use Rattle.bitpack_lists.specs.declared.opened.PackedList.{PackedList}
+use Rattle.bitpack_lists.specs.declared.blocks.reads.PackedList.{PackedList}
 use Rattle.bitpack_lists.specs.declared.blocks.reads.Reads.{Reads}
 use Rattle.bitpack_lists.specs.Opened.{blocks_of}
 use Rattle.bitpack_lists.specs.Search.{first_reaching}

@@ -5,8 +5,8 @@ ghost use Rattle.bitpack_lists.specs.declared.list_error.ListError.{ListError};
 ghost use Rattle.bitpack_lists.specs.Opened.{values};
 ghost use Rattle.bitpack_lists.specs.inner.Searching.{blocks_of};
 
-use super::{ListBlock, PackedList};
-use crate::blocks::reads::Reads;
+use super::ListBlock;
+use crate::blocks::reads::{PackedList, Reads};
 use crate::list_error::ListError;
 use crate::list_kind::next_kind;
 use crate::reserved::append_zeros;

@@ -4,9 +4,8 @@ ghost use Rattle.std.specs.Prelude.{◌≡◌, ◌-◌, ◌<◌, ◌≤◌, leng
 ghost use Rattle.bitpacking.specs.Codes.{values_of};
 ghost use Rattle.bitpack_lists.specs.inner.CodeSteps.{sums};
 
-use super::PackedList;
 use super::search::SHORT_BLOCK_LEN;
-use crate::blocks::reads::Reads;
+use crate::blocks::reads::{PackedList, Reads};
 use bitpacking::{BitPacker, Kind, MAX_BLOCK_LEN};
 
 impl<'a, P: BitPacker> PackedList<'a, P> {

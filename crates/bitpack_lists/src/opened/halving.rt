@@ -2,8 +2,8 @@
 
 ghost use Rattle.std.specs.Prelude.{◌≡◌, ◌<◌, ◌≤◌};
 
-use super::{ListBlock, PackedList};
-use crate::blocks::reads::Reads;
+use super::ListBlock;
+use crate::blocks::reads::{PackedList, Reads};
 use crate::list_kind::next_kind;
 use bitpacking::BitPacker;
 

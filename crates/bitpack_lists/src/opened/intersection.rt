@@ -9,8 +9,8 @@ ghost use Rattle.bitpack_lists.specs.Search.{HasGrown};
 ghost use Rattle.bitpack_lists.specs.inner.Searching.{IsListBlock, UnpacksOne, blocks_of, skip_key_of_list};
 ghost use Rattle.bitpack_lists.specs.inner.Walks.{Appends, AreNext, IsWalking, IsWalkingOver, IsWantedNext, Stage, Started, further, started_with};
 
-use super::{CachedBlock, ListBlock, PackedList};
-use crate::blocks::reads::Reads;
+use super::{CachedBlock, ListBlock};
+use crate::blocks::reads::{PackedList, Reads};
 use crate::list_error::ListError;
 use crate::list_kind::next_kind;
 use bitpacking::{BitPacker, MAX_BLOCK_LEN};

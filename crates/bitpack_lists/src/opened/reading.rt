@@ -1,17 +1,15 @@
-//! The skip keys and the blocks of an opened list, each counted in `Reads`.
+//! The blocks of an opened list and their kinds, counted in `Reads`.
 
 ghost use Rattle.std.specs.Prelude.{◌≡◌};
 
-use super::{ListBlock, PackedList};
-use crate::blocks::reads::Reads;
+use super::ListBlock;
+use crate::blocks::reads::{PackedList, Reads};
 use crate::list_kind::next_kind;
 use bitpacking::{BitPacker, Kind};
 
 impl<'a, P: BitPacker> PackedList<'a, P> {
-    ghost use Rattle.std.specs.Prelude.{◌+◌, ◌*◌, ◌<◌, ◌≤◌, ◌^◌, length, take};
-    ghost use Rattle.bitpacking.specs.Codes.{start, values_of};
-    ghost use Rattle.bitpack_lists.specs.inner.Searching.{IsListBlock, ReadsEntries, block_of_list, blocks_of, kind_of_list, skip_key_of_list};
-    ghost use Rattle.bitpack_lists.specs.inner.BlockCodes.{codes_of_list};
+    ghost use Rattle.std.specs.Prelude.{◌+◌, ◌<◌, ◌≤◌, length, take};
+    ghost use Rattle.bitpack_lists.specs.inner.Searching.{IsListBlock, ReadsEntries, block_of_list, blocks_of, kind_of_list};
 
     /// The kind of a block, which goes on from the skip key of the block before.
     pub(super) fn kind_of_block(&self, block: usize, reads: &mut Reads) -> Kind
@@ -27,16 +25,6 @@ impl<'a, P: BitPacker> PackedList<'a, P> {
         next_kind(first, self.skip_key(block - 1, reads))
     }
 
-    /// Reads the skip key of a block: its last value.
-    pub(super) fn skip_key(&self, block: usize, reads: &mut Reads) -> u32
-        requires { block < blocks_of self.now }
-        ensures skip_key { result ≡ skip_key_of_list self.now block }
-        ensures entries { reads.new.entries ≡ reads.old.entries + 1 }
-        ensures blocks { reads.new.blocks ≡ reads.old.blocks }
-    {
-        reads.read_last(self.rest, block)
-    }
-
     /// Unpacks a block, whose body is in the bytes.
     pub(super) fn unpack_block(&self, block: ListBlock, values: &mut [u32], reads: &mut Reads)
         requires block { IsListBlock self.now block }
@@ -46,27 +34,5 @@ impl<'a, P: BitPacker> PackedList<'a, P> {
         ensures blocks { reads.new.blocks ≡ reads.old.blocks + 1 }
     {
         self.unpack_block_as(block.number, block.kind, values, reads);
-    }
-
-    // Unpacks a block as one of a kind, which need not be its own.
-    pub(super) fn unpack_block_as(
-        &self,
-        block: usize,
-        kind: Kind,
-        values: &mut [u32],
-        reads: &mut Reads,
-    )
-        requires can { (block < blocks_of self.now) × (start kind < 2 ^ 32) × (P.BLOCK_LEN ≤ length values.old) }
-        ensures block { take P.BLOCK_LEN values.new ≡ values_of kind (codes_of_list self.now block) }
-        ensures reads { (reads.new.entries ≡ reads.old.entries) × (reads.new.blocks ≡ reads.old.blocks + 1) }
-    {
-        reads.unpack_block(
-            &self.packer,
-            kind,
-            block,
-            self.count / P::BLOCK_LEN,
-            self.rest,
-            values,
-        );
     }
 }

@@ -6,8 +6,8 @@ ghost use Rattle.bitpack_lists.specs.Search.{first_reaching};
 ghost use Rattle.bitpack_lists.specs.inner.Seeking.{IsFirstIn};
 
 use super::in_slice::count_below;
-use super::{CachedBlock, ListBlock, PackedList};
-use crate::blocks::reads::Reads;
+use super::{CachedBlock, ListBlock};
+use crate::blocks::reads::{PackedList, Reads};
 use bitpacking::{BitPacker, MAX_BLOCK_LEN};
 
 /// The length of the blocks of four lanes. Less room is cleared for these.

@@ -4,7 +4,7 @@ use Rattle.std.proofs.Common.{◌≡◌, ◌≢◌, ℕ, ◌+◌, ◌-◌, ◌*�
 use Rattle.std.proofs.Math.Nat.{div-add-mod}
 use Rattle.std.proofs.lemmas.Nat.{mul-le}
 use Rattle.bitpacking.specs.declared.bit_packer.BitPacker.{Ghosts}
-use Rattle.bitpack_lists.specs.declared.opened.PackedList.{PackedList}
+use Rattle.bitpack_lists.specs.declared.blocks.reads.PackedList.{PackedList}
 use Rattle.bitpack_lists.specs.declared.list_kind.ListKind.TheVariants as lists
 use Rattle.bitpack_lists.specs.Parts.{tail_values}
 use Rattle.bitpack_lists.specs.inner.Searching.{block_of_list, blocks_of, skip_key_of_list, value_of}
