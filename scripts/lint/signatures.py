@@ -26,8 +26,8 @@ VERSIONS += [(it, r'^version = "(.*)"$') for it in ("rust/c/Cargo.toml", "python
 
 
 def in_c(written, name=""):
-    """A parameter in C, as Rattle writes its type; of no name, what a function returns."""
-    written = re.sub(r"<'\w+>|'\w+ ", "", written)
+    """A parameter in C, as Rattle writes its type; of no name, what a function returns. The struct of a slice alone is that slice."""
+    written = re.sub(r"<'\w+>|'\w+ ", "", written).replace("ColumnBytes", "&[u8]")
     if array := re.fullmatch(r"\[(\w+); (\w+)\]", written):
         return [f"{C_TYPES[array[1]]} {name}[{array[2] if array[2].isdigit() else f'BITPACKING_{array[2]}'}]"]
     if items := re.fullmatch(r"&(mut )?\[(\w+)\]", written):

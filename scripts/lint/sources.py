@@ -35,6 +35,8 @@ MAKERS = {
     f"{LISTS}/opened.rt": ["get", "open"],
     f"{LISTS}/opened/copying.rt": ["append_to"],
     f"{LISTS}/v2/writing.rt": ["encode"],
+    f"{COLUMNS}/appending.rt": ["append", "append", "append_to", "append_to"],
+    f"{COLUMNS}/column/copying.rt": ["copy_range", "copy_to"],
     f"{COLUMNS}/column/getting.rt": ["gather", "get"],
     f"{COLUMNS}/column/search.rt": ["seek"],
     f"{COLUMNS}/column/ranges.rt": ["count_between", "positions_between"],
@@ -45,13 +47,13 @@ OWN_READS = r"\bstruct Reads \{|\bimpl (Model for )?Reads \{|\bsize_of::<Reads>\
 OWN_READS += r"|\breads: &mut Reads\b"
 # The calls of lists that lend a new one, and so count for no caller.
 UNCOUNTED = rf"(?<!fn )\b({'|'.join(sorted({name for path in MAKERS if path.startswith(LISTS) for name in MAKERS[path]}))})\b"
-# In the files of columns that count: what reads a mark or unpacks, if not by `Reads`, or sees all bytes; and calls that count for no caller.
-COUNTING = [path for path in MAKERS if path.startswith(COLUMNS)]
-READS_BESIDE = (
-    r"mark|mark_at|\w*base|value_before|value_in_tail|read_block|copy_to|copy_range|copy_part|append_to|cursor|\w*unpack\w*|decompress\w*"
-)
-NOT_COUNTED = rf"(?<!reads\.)\b(?:({READS_BESIDE})\(|rest\b|bytes\b)"
-LENDING = rf"(?<!fn )\b({'|'.join(sorted({name for path in COUNTING for name in MAKERS[path]}))})\b"
+# The cursor of columns has a `Reads` of its own. And by file of columns the functions that lend none, but call one that does.
+OWNS_READS = (f"{COLUMNS}/column_cursor.rt", r"\breads: Reads,|\blet mut reads = Reads::new\(\);")
+CALL_MAKERS = {
+    f"{COLUMNS}/column/copying.rt": ["append_to"],
+    f"{COLUMNS}/column_cursor.rt": ["cursor"],
+    f"{COLUMNS}/appending/joining.rt": ["join", "join_to"],
+}
 
 
 def codes(folder, *without):
@@ -168,18 +170,32 @@ def makers(path, text):
         yield f"{path}: {', '.join(made) or 'nothing'} makes a Reads, and not {', '.join(MAKERS.get(path, [])) or 'nothing'}"
 
 
+def uncounted():
+    """What lends a `Reads` in columns, or calls what does, and may not: it counts for no caller. A method is called by a dot or its type."""
+    bodies = {}
+    for path, text in codes(COLUMNS, DOORS[COLUMNS]).items():
+        for found in re.finditer(r"\bfn (\w+)([^{;]*)\{", text):
+            name = rf"[.:]{found[1]}" if re.search(r"\(\s*&(mut )?self\b", found[2]) else rf"(?<![.\w]){found[1]}"
+            bodies[path, found[1], name] = text[found.end() : end_of_braces(text, found.end() - 1)]
+    found, names = set(), {r"\bReads::new"}
+    while names:
+        new = {key for key, body in bodies.items() if key not in found and re.search(rf"(?:{'|'.join(names)})\b", body)}
+        found, names = found | new, {name for _, _, name in new}
+    for path, name, _ in sorted(found):
+        if name not in MAKERS.get(path, []) + CALL_MAKERS.get(path, []):
+            yield f"{path}: {name} lends a Reads, or calls what does, and may not"
+
+
 def reads():
     for crate, door in DOORS.items():
         yield from each(door, bare(OWN_READS, code(door)), r"\b(Reads|Self)\b")
         for path, text in codes(crate, door).items():
-            yield from makers(path, text)
+            yield from makers(path, bare(OWNS_READS[1], text) if path == OWNS_READS[0] else text)
     yield from each(DOORS[LISTS], code(DOORS[LISTS]), r"\bpub(?:\(\w+\))? (\w+): &", "{what} shows bytes to other files")
+    yield from uncounted()
     for path, text in codes(LISTS).items():
         exported = r"(?m)^pub use [\w:]*(\w|\{[^}]*\});"
         yield from each(path, bare(exported, text), UNCOUNTED, "{fn} names {what}, which counts for no caller")
-    for path, text in {it: code(it) for it in COUNTING}.items():
-        yield from each(path, text, NOT_COUNTED, "{what} is not counted")
-        yield from each(path, text, LENDING, "{fn} names {what}, which counts for no caller")
 
 
 def calls():

@@ -25,11 +25,11 @@ module _ (column : Column) (m : ℕ) (lt : m < blocks_of column) (k : ℕ) (insi
 
   pub value_small : get_or (values column) (128 * m + k) 0 < 2 ^ 32
   value_small =
-      let block : List ℕ = block_values column.kind column.first (blocks_of column) column.rest.now m in
-      let long = length-block_values column.kind column.first (blocks_of column) column.rest.now m in
+      let block : List ℕ = block_values column.kind column.first (blocks_of column) column.rest.bytes.now m in
+      let long = length-block_values column.kind column.first (blocks_of column) column.rest.bytes.now m in
       let is = sym (value_of_block (values column) m k inside) ∙ ap (λ xs. get_or xs k 0) (block_is column m lt) in
       let small : get_or block k 0 < 2 ^ 32 =
       All-get_or (λ v. v < 2 ^ 32) block k 0 (omega arith)
-      (AreWords-values_of column.kind (base_of column.kind column.first (mark_at (blocks_of column) column.rest.now) m)
-      (codes_at (blocks_of column) column.rest.now m)) in
+      (AreWords-values_of column.kind (base_of column.kind column.first (mark_at (blocks_of column) column.rest.bytes.now) m)
+      (codes_at (blocks_of column) column.rest.bytes.now m)) in
       omega (arith, is, small)

@@ -7,12 +7,12 @@ use Rattle.bitpack_groups.specs.Packed.{le_bytes}
 use Rattle.bitpack_columns.specs.declared.column.Column.{Column}
 use Rattle.bitpack_columns.specs.declared.column_kind.ColumnKind.{ColumnKind}
 use Rattle.bitpack_columns.specs.declared.column_kind.ColumnKind.TheVariants.{Plain, Sorted}
-use Rattle.bitpack_columns.specs.Columns.{IsColumn, base_of, mark_in, sum_to}
+use Rattle.bitpack_columns.specs.Columns.{IsColumn, base_of, mark_in, sum_to, width_in}
 use Rattle.bitpack_columns.specs.Measured.{IsMeasured, bodies_encoding, ends_encoding, extended, marks_encoding, packed_after, width_after}
 use Rattle.bitpack_columns.specs.Numbers.{greatest}
 use Rattle.bitpack_columns.specs.Opened.{blocks_of, values}
-use Rattle.bitpack_columns.specs.Reads.{begin_at, bodies_start, end_at}
-use Rattle.bitpack_columns.proofs.BlocksEncodings.{AreRead, bodies_encoding as bodies_read, sum_read}
+use Rattle.bitpack_columns.specs.Reads.{begin_at, bodies_start, end_at, width_at}
+use Rattle.bitpack_columns.proofs.BlocksEncodings.{AreRead, bodies_encoding as bodies_read, sum_read, width_read}
 use Rattle.bitpack_columns.proofs.EntryLaws.{body_encoding, end_encoding, mark_encoding}
 use Rattle.bitpack_columns.proofs.MeasureLaws.{total_few}
 use Rattle.bitpack_columns.proofs.OpenedLaws.{are_blocks, block_is, body_few, blocks_is, first_is, opened, rising}
@@ -28,48 +28,51 @@ abbrev pub head_of : Column → ℕ
 head_of column = get_or (values column) 0 0
 
 module _ (column : Column) (some : 0 < blocks_of column) where
-  front_read : AreRead column.kind column.first (values column) column.rest.now
+  front_read : AreRead column.kind column.first (values column) column.rest.bytes.now
   front_read =
       let is = opened column in
       let e = blocks_is column in
       record {
         are_bytes = is.are_bytes;
         are_blocks = are_blocks column 0 some;
-        are_tight = subst (λ (n : ℕ). AreTight n column.rest.now) e (is.are_tight (omega arith));
+        are_tight = subst (λ (n : ℕ). AreTight n column.rest.bytes.now) e (is.are_tight (omega arith));
         small = is.small;
         block = λ m lt. block_is column m lt;
         first_is = λ sorted. sym (first_is column sorted);
       }
 
-  pub copied_sum : (m : ℕ) → m ≤ blocks_of column → sum_to (width_after column.kind (head_of column) (values column)) m ≡ begin_at column.rest.now m
-  copied_sum m le = sum_read column.kind column.first (values column) column.rest.now front_read m le
+  pub copied_sum : (m : ℕ) → m ≤ blocks_of column → sum_to (width_after column.kind (head_of column) (values column)) m ≡ begin_at column.rest.bytes.now m
+  copied_sum m le = sum_read column.kind column.first (values column) column.rest.bytes.now front_read m le
 
-  pub copied_total : sum_to (width_after column.kind (head_of column) (values column)) (blocks_of column) ≡ begin_at column.rest.now (blocks_of column)
+  pub copied_width : (m : ℕ) → m < blocks_of column → width_in column.kind (values column) m ≡ width_at column.rest.bytes.now m
+  copied_width m lt = width_read column.kind column.first (values column) column.rest.bytes.now front_read m lt
+
+  pub copied_total : sum_to (width_after column.kind (head_of column) (values column)) (blocks_of column) ≡ begin_at column.rest.bytes.now (blocks_of column)
   copied_total = copied_sum (blocks_of column) (omega arith)
 
-  pub copied_end : (size m : ℕ) → m < blocks_of column → le_bytes size (end_at column.rest.now m) ≡ end_encoding column.kind (head_of column) (values column) size 0 m
+  pub copied_end : (size m : ℕ) → m < blocks_of column → le_bytes size (end_at column.rest.bytes.now m) ≡ end_encoding column.kind (head_of column) (values column) size 0 m
   copied_end size m lt =
       let e = copied_sum (suc m) (omega arith) in
-      let f : end_at column.rest.now m ≡ 0 + sum_to (width_after column.kind (head_of column) (values column)) (suc m) = omega arith in
+      let f : end_at column.rest.bytes.now m ≡ 0 + sum_to (width_after column.kind (head_of column) (values column)) (suc m) = omega arith in
       ap (le_bytes size) f
 
   pub copied_bodies : (out : List ℕ) → length out ≡ 16 * sum_to (width_after column.kind (head_of column) (values column)) (blocks_of column)
-      → take (length out) (drop (bodies_start (blocks_of column) column.rest.now) column.rest.now) ≡ bodies_encoding column.kind (head_of column) (values column)
+      → take (length out) (drop (bodies_start (blocks_of column) column.rest.bytes.now) column.rest.bytes.now) ≡ bodies_encoding column.kind (head_of column) (values column)
   unfolding bodies_encoding
   copied_bodies out long =
-      let e : length out ≡ 16 * begin_at column.rest.now (blocks_of column) = long ∙ ap (λ (n : ℕ). 16 * n) copied_total in
-      ap (λ (n : ℕ). take n (drop (bodies_start (blocks_of column) column.rest.now) column.rest.now)) e
-      ∙ sym (bodies_read column.kind column.first (values column) column.rest.now front_read)
+      let e : length out ≡ 16 * begin_at column.rest.bytes.now (blocks_of column) = long ∙ ap (λ (n : ℕ). 16 * n) copied_total in
+      ap (λ (n : ℕ). take n (drop (bodies_start (blocks_of column) column.rest.bytes.now) column.rest.bytes.now)) e
+      ∙ sym (bodies_read column.kind column.first (values column) column.rest.bytes.now front_read)
 
-  pub copied_room : bodies_start (blocks_of column) column.rest.now + 16 * sum_to (width_after column.kind (head_of column) (values column)) (blocks_of column) ≤ length column.rest.now
+  pub copied_room : bodies_start (blocks_of column) column.rest.bytes.now + 16 * sum_to (width_after column.kind (head_of column) (values column)) (blocks_of column) ≤ length column.rest.bytes.now
   copied_room =
       let e = copied_total in
-      let f = tail_start-is column.kind column.first (blocks_of column) column.rest.now (are_blocks column 0 some) 0 some in
+      let f = tail_start-is column.kind column.first (blocks_of column) column.rest.bytes.now (are_blocks column 0 some) 0 some in
       let room = (are_blocks column 0 some).room in
       omega arith
 
   -- where the bodies end
-  pub copied_few : bodies_start (blocks_of column) column.rest.now + 16 * sum_to (width_after column.kind (head_of column) (values column)) (blocks_of column) ≤ 2 ^ 32
+  pub copied_few : bodies_start (blocks_of column) column.rest.bytes.now + 16 * sum_to (width_after column.kind (head_of column) (values column)) (blocks_of column) ≤ 2 ^ 32
   copied_few =
       let m : ℕ = blocks_of column - 1 in
       let lt : m < blocks_of column = omega arith in
@@ -79,9 +82,9 @@ module _ (column : Column) (some : 0 < blocks_of column) where
       let total = copied_total in
       omega arith
     where
-      last_begin : (k : ℕ) → 0 < k → begin_at column.rest.now k ≡ end_at column.rest.now (k - 1)
+      last_begin : (k : ℕ) → 0 < k → begin_at column.rest.bytes.now k ≡ end_at column.rest.bytes.now (k - 1)
       last_begin zero h = absurd (omega arith)
-      last_begin (suc k) h = (let e : k ≡ suc k - 1 = omega arith in ap (end_at column.rest.now) e)
+      last_begin (suc k) h = (let e : k ≡ suc k - 1 = omega arith in ap (end_at column.rest.bytes.now) e)
 
 -- the blocks of a column and packed values after them
 pub copied_split : (column : Column) (packed : List ℕ)
@@ -196,4 +199,4 @@ copied_done f size count i out all e =
 pub opened_column : (column : Column) → IsColumn column.kind (values column)
 opened_column column =
     let states = column.states in
-    subst (λ (kind : ColumnKind). IsColumn kind (values column)) (sym states.kind_is) (values_are_read column.bytes.now column.are_bytes states.none).0
+    subst (λ (kind : ColumnKind). IsColumn kind (values column)) (sym states.kind_is) (values_are_read column.bytes.bytes.now column.are_bytes states.none).0

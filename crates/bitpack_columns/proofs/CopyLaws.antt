@@ -55,12 +55,12 @@ rest_left out front tail whole count le long rest =
     ∙ drop-append-drop whole out front count le long
 
 -- the body of a block, as it is lent of all bodies
-pub lent_body : (column : Column) (m start begin end : ℕ) → m < blocks_of column → start ≡ bodies_start (blocks_of column) column.rest.now
-    → begin ≡ begin_at column.rest.now m → end ≡ end_at column.rest.now m
-    → take (16 * end - 16 * begin) (drop (16 * begin) (take (length column.rest.now - start) (drop start column.rest.now)))
-    ≡ body_at (blocks_of column) column.rest.now m
+pub lent_body : (column : Column) (m start begin end : ℕ) → m < blocks_of column → start ≡ bodies_start (blocks_of column) column.rest.bytes.now
+    → begin ≡ begin_at column.rest.bytes.now m → end ≡ end_at column.rest.bytes.now m
+    → take (16 * end - 16 * begin) (drop (16 * begin) (take (length column.rest.bytes.now - start) (drop start column.rest.bytes.now)))
+    ≡ body_at (blocks_of column) column.rest.bytes.now m
 lent_body column m start begin end lt first here last =
-    let rest : List ℕ = column.rest.now in
+    let rest : List ℕ = column.rest.bytes.now in
     let up = rising column m lt in
     let size : 16 * end - 16 * begin ≡ 16 * width_at rest m = omega arith in
     let from : start + 16 * begin ≡ bodies_start (blocks_of column) rest + 16 * begin_at rest m = omega arith in

@@ -6,7 +6,7 @@ use Rattle.bitpack_columns.specs.Stated.{values_in}
 
 -- its bytes
 abbrev pub encoding_of : Column → List ℕ
-encoding_of column = column.bytes.now
+encoding_of column = column.bytes.bytes.now
 
 -- its kind
 abbrev pub kind_of : Column → ColumnKind

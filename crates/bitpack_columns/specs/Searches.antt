@@ -4,10 +4,9 @@ use Rattle.std.specs.Int.{bit_at}
 use Rattle.std.specs.List.{filter, range_with_len}
 use Rattle.bitpack_columns.specs.declared.column.Column.{Column}
 use Rattle.bitpack_columns.specs.declared.column_kind.ColumnKind.TheVariants.{Plain}
-use Rattle.bitpack_columns.specs.Columns.{block_of, mark_of}
+use Rattle.bitpack_columns.specs.Columns.{block_of, mark_of, width_in}
 use Rattle.bitpack_columns.specs.Opened.{values}
 use Rattle.bitpack_columns.specs.Ranges.{is_between, positions_between}
-use Rattle.bitpack_columns.specs.Reads.{width_at}
 
 -- the values before a position are below a target, and the others are not
 pub record IsLowerBound (values : List ℕ) (target position : ℕ) : Type 0 where
@@ -41,7 +40,7 @@ abbrev pub least_in : Column → ℕ → ℕ
 least_in column block = mark_of Plain (block_of block (values column))
 
 abbrev pub greatest_in : Column → ℕ → ℕ
-greatest_in column block = min (2 ^ 32 - 1) (least_in column block + (2 ^ width_at column.rest.now block - 1))
+greatest_in column block = min (2 ^ 32 - 1) (least_in column block + (2 ^ width_in Plain (values column) block - 1))
 
 -- each value of a block is within a range, or if the answer is false none is
 abbrev pub AreWithin : Bool → ℕ → ℕ → ℕ → List ℕ → Type 0

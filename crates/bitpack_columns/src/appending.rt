@@ -16,6 +16,7 @@ use crate::column::{BLOCK_LEN, Column};
 use crate::column_error::ColumnError;
 use crate::column_kind::ColumnKind;
 use crate::encoding::order::test_more;
+use crate::reads::Reads;
 
 /// Writes the encoding of the values of a column and of more values after them at the start of the slice, and returns its length in bytes.
 /// Allocates nothing.
@@ -28,9 +29,9 @@ pub fn append_to(column: &Column, more: &[u32], out: &mut [u8]) -> Result<usize,
     ensures { WritesColumn (kind_of column.now) (values column.now ++ more.now) result out.old out.new }
 {
     let mut room = [0; BLOCK_LEN];
-    let taken = fill(column, more, &mut room)?;
+    let taken = fill(column, more, &mut room, &mut Reads::new())?;
     let (filled, later) = whole(&room[..column.count % BLOCK_LEN + taken], &more[taken..]);
-    write_packed(column, filled, later, out)
+    write_packed(column, filled, later, out, &mut Reads::new())
 }
 
 /// Appends the encoding of the values of a column and of more values after them. The vector grows at most once.
@@ -40,14 +41,19 @@ pub fn append(column: &Column, more: &[u32], out: &mut Vec<u8>) -> Result<(), Co
     ensures { AppendsColumn (kind_of column.now) (values column.now ++ more.now) result out.old out.new }
 {
     let mut room = [0; BLOCK_LEN];
-    let taken = fill(column, more, &mut room)?;
+    let taken = fill(column, more, &mut room, &mut Reads::new())?;
     let (filled, later) = whole(&room[..column.count % BLOCK_LEN + taken], &more[taken..]);
-    append_packed(column, filled, later, out)
+    append_packed(column, filled, later, out, &mut Reads::new())
 }
 
 /// Tests that values can follow a column. Unpacks its tail to the room, and fills the block after it with the first of these values. Returns
 /// how many these are.
-fn fill(column: &Column, more: &[u32], room: &mut [u32]) -> Result<usize, ColumnError>
+fn fill(
+    column: &Column,
+    more: &[u32],
+    room: &mut [u32],
+    reads: &mut Reads,
+) -> Result<usize, ColumnError>
     requires { length room.old ≡ BLOCK_LEN }
     ensures fault { Finds result (refusal (kind_of column.now) (values column.now ++ more.now)) }
     ensures column { OnOk result (IsColumn (kind_of column.now) (values column.now ++ more.now)) }
@@ -56,8 +62,8 @@ fn fill(column: &Column, more: &[u32], room: &mut [u32]) -> Result<usize, Column
         ≡ tail_of (blocks_of column.now) (values column.now) ++ take taken more.now) }
 {
     let (tail, rest) = room.split_at_mut(column.count % BLOCK_LEN);
-    column.unpack_tail(tail);
-    test_after(column, tail, more)?;
+    reads.unpack_tail(column, tail);
+    test_after(column, tail, more, reads)?;
     let taken = more.len().min(rest.len());
     rest[..taken].copy_from_slice(&more[..taken]);
     Ok(taken)
@@ -77,16 +83,22 @@ fn whole<'a>(filled: &'a [u32], later: &'a [u32]) -> (&'a [u32], &'a [u32])
 }
 
 /// Tests that values can follow a column, which has this tail.
-fn test_after(column: &Column, tail: &[u32], more: &[u32]) -> Result<(), ColumnError>
+fn test_after(
+    column: &Column,
+    tail: &[u32],
+    more: &[u32],
+    reads: &mut Reads,
+) -> Result<(), ColumnError>
     requires { tail.now ≡ tail_of (blocks_of column.now) (values column.now) }
     ensures fault { Finds result (refusal (kind_of column.now) (values column.now ++ more.now)) }
     ensures column { OnOk result (IsColumn (kind_of column.now) (values column.now ++ more.now)) }
 {
-    test_more(column.kind, column.count, last_value(column, tail), more)
+    let last = last_value(column, tail, reads);
+    test_more(column.kind, column.count, last, more)
 }
 
 /// The last value of a sorted column, which has this tail, 0 if it has no value. Of a plain column it may be any number.
-fn last_value(column: &Column, tail: &[u32]) -> u32
+fn last_value(column: &Column, tail: &[u32], reads: &mut Reads) -> u32
     requires { tail.now ≡ tail_of (blocks_of column.now) (values column.now) }
     ensures none { kind_of column.now ≡ Sorted → length (values column.now) ≡ 0 → result ≡ 0 }
     ensures some { kind_of column.now ≡ Sorted → 0 < length (values column.now)
@@ -94,7 +106,7 @@ fn last_value(column: &Column, tail: &[u32]) -> u32
 {
     match column.kind {
         ColumnKind::Plain => 0,
-        ColumnKind::Sorted if tail.is_empty() => column.value_before(column.blocks()),
+        ColumnKind::Sorted if tail.is_empty() => reads.read_before(column, column.blocks()),
         ColumnKind::Sorted => tail[tail.len() - 1],
     }
 }

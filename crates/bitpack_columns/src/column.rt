@@ -1,6 +1,5 @@
 //! A column, read without unpacking all of it. It is zero-copy: it borrows its bytes.
 
-mod blocks;
 mod bounds;
 mod copying;
 mod getting;
@@ -15,6 +14,7 @@ ghost use Rattle.bitpack_columns.specs.Sound.{States};
 use crate::column_error::ColumnError;
 use crate::column_kind::ColumnKind;
 use crate::opening::{read_parts, test_column};
+use crate::reads::ColumnBytes;
 
 /// How many values a block has.
 pub(crate) const BLOCK_LEN: usize = 128;
@@ -31,20 +31,20 @@ pub struct Parts<'a> {
     /// The first value of a sorted column, else 0.
     pub first: u32,
     /// The bytes after these.
-    pub rest: &'a [u8],
+    pub rest: ColumnBytes<'a>,
 }
 
 /// A column whose bytes were tested when it was opened, so that reading it tests nothing again and cannot fail.
 #[derive(Clone, Copy)]
 pub struct Column<'a> {
-    bytes: &'a [u8],
+    bytes: ColumnBytes<'a>,
     pub(crate) kind: ColumnKind,
     pub(crate) count: usize,
     pub(crate) first: u32,
     // What is after the count and the first value.
-    pub(crate) rest: &'a [u8],
-    ghost are_bytes: { AreBytes bytes.now },
-    ghost states: { States bytes.now kind count first rest.now },
+    pub(crate) rest: ColumnBytes<'a>,
+    ghost are_bytes: { AreBytes bytes.bytes.now },
+    ghost states: { States bytes.bytes.now kind count first rest.bytes.now },
 }
 
 impl<'a> Column<'a> {
@@ -52,7 +52,7 @@ impl<'a> Column<'a> {
     ghost use Rattle.bitpack_columns.specs.Columns.{IsColumn, encoding};
     ghost use Rattle.bitpack_columns.specs.Errors.{Finds};
     ghost use Rattle.bitpack_columns.specs.Faults.{fault};
-    ghost use Rattle.bitpack_columns.specs.Opened.{encoding_of, kind_of, values};
+    ghost use Rattle.bitpack_columns.specs.Opened.{blocks_of, encoding_of, kind_of, values};
     ghost use Rattle.bitpack_columns.specs.Stated.{kind_in};
 
     /// Opens an encoded column. Tests all bytes, accepts any, and allocates nothing.
@@ -67,7 +67,7 @@ impl<'a> Column<'a> {
     {
         let parts = test_column(bytes)?;
         Ok(Column {
-            bytes,
+            bytes: ColumnBytes::new(bytes),
             kind: parts.kind,
             count: parts.count,
             first: parts.first,
@@ -89,14 +89,14 @@ impl<'a> Column<'a> {
 
     /// The column of these bytes, whose parts were taken from it when they were opened. Reads none of the bytes.
     pub fn from_parts(bytes: &'a [u8], parts: Parts<'a>) -> Column<'a>
-        requires { States bytes.now parts.kind parts.count parts.first parts.rest.now }
+        requires { States bytes.now parts.kind parts.count parts.first parts.rest.bytes.now }
         ensures bytes { encoding_of result ≡ bytes.now }
         ensures kind { kind_of result ≡ kind_in bytes.now }
         ensures column { IsColumn (kind_of result) (values result) }
         ensures encoding { encoding (kind_of result) (values result) ≡ bytes.now }
     {
         Column {
-            bytes,
+            bytes: ColumnBytes::new(bytes),
             kind: parts.kind,
             count: parts.count,
             first: parts.first,
@@ -106,7 +106,7 @@ impl<'a> Column<'a> {
 
     /// What opening this column found.
     pub fn parts(&self) -> Parts<'a>
-        ensures states { States (encoding_of self.now) result.kind result.count result.first result.rest.now }
+        ensures states { States (encoding_of self.now) result.kind result.count result.first result.rest.bytes.now }
         ensures kind { result.kind ≡ kind_of self.now }
         ensures count { result.count ≡ length (values self.now) }
     {
@@ -130,6 +130,13 @@ impl<'a> Column<'a> {
         ensures { result ≡ length (values self.now) }
     {
         self.count
+    }
+
+    /// How many whole blocks of 128 values there are. The other values, fewer than 128, are the tail.
+    pub fn blocks(&self) -> usize
+        ensures { result ≡ blocks_of self.now }
+    {
+        self.count / BLOCK_LEN
     }
 
     /// Whether there is no value.

@@ -5,6 +5,7 @@ ghost use Rattle.bitpack_columns.specs.Columns.{block_of};
 ghost use Rattle.bitpack_columns.specs.Opened.{blocks_of, values};
 
 use crate::column::{BLOCK_LEN, Column};
+use crate::reads::Reads;
 
 /// A position in a column. It has the values of the block that the position is in, and so takes about half a KB.
 ///
@@ -17,6 +18,7 @@ pub struct ColumnCursor<'a> {
     index: usize,
     len: usize,
     unpacked: [u32; BLOCK_LEN],
+    reads: Reads,
     ghost within: { block ≤ blocks_of column },
     ghost long: { len ≡ min 128 (length (values column) - 128 * block) },
     ghost inside: { index ≤ len },
@@ -25,28 +27,31 @@ pub struct ColumnCursor<'a> {
 }
 
 impl<'a> Column<'a> {
-    ghost use Rattle.bitpack_columns.specs.Cursors.{all_of, position_of};
+    ghost use Rattle.bitpack_columns.specs.Cursors.{all_of, position_of, unpacked_by};
 
     /// A cursor at the first value. Unpacks the first block.
     pub fn cursor(&self) -> ColumnCursor<'a>
         ensures all { all_of result ≡ values self.now }
         ensures position { position_of result ≡ 0 }
+        ensures unpacks { unpacked_by result ≡ 1 }
     {
         let mut unpacked = [0; BLOCK_LEN];
-        let len = self.read_block(0, &mut unpacked);
+        let mut reads = Reads::new();
+        let len = reads.unpack_block(self, 0, &mut unpacked);
         ColumnCursor {
             column: *self,
             block: 0,
             index: 0,
             len,
             unpacked,
+            reads,
         }
     }
 }
 
 impl<'a> ColumnCursor<'a> {
     ghost use Rattle.std.specs.Prelude.{◌/◌, ◌%◌, slice_get};
-    ghost use Rattle.bitpack_columns.specs.Cursors.{all_of, left_of, position_of};
+    ghost use Rattle.bitpack_columns.specs.Cursors.{Unpacks, all_of, left_of, position_of};
 
     /// The number of values before the cursor.
     pub fn position(&self) -> usize
@@ -81,6 +86,7 @@ impl<'a> ColumnCursor<'a> {
     pub fn advance(&mut self)
         ensures all { all_of self.new ≡ all_of self.old }
         ensures position { position_of self.new ≡ min (position_of self.old + 1) (length (all_of self.old)) }
+        ensures unpacks { Unpacks self.old self.new }
     {
         if self.index + 1 < self.len {
             self.index += 1;
@@ -95,6 +101,7 @@ impl<'a> ColumnCursor<'a> {
         ensures all { all_of self.new ≡ all_of self.old }
         ensures position { position_of self.new
             ≡ min (128 * (position_of self.old / 128 + 1)) (length (all_of self.old)) }
+        ensures unpacks { Unpacks self.old self.new }
     {
         if self.block < self.column.blocks() {
             self.enter(self.block + 1, 0);
@@ -107,6 +114,7 @@ impl<'a> ColumnCursor<'a> {
     pub fn move_to(&mut self, position: usize)
         ensures all { all_of self.new ≡ all_of self.old }
         ensures position { position_of self.new ≡ min position (length (all_of self.old)) }
+        ensures unpacks { Unpacks self.old self.new }
     {
         let to = position.min(self.column.count);
         self.enter(to / BLOCK_LEN, to % BLOCK_LEN);
@@ -120,9 +128,12 @@ impl<'a> ColumnCursor<'a> {
         requires within { 128 * block + index ≤ length (all_of self.old) }
         ensures all { all_of self.new ≡ all_of self.old }
         ensures position { position_of self.new ≡ 128 * block + index }
+        ensures unpacks { Unpacks self.old self.new }
     {
         if block != self.block {
-            self.len = self.column.read_block(block, &mut self.unpacked);
+            self.len = self
+                .reads
+                .unpack_block(&self.column, block, &mut self.unpacked);
             self.block = block;
         }
         self.index = index;

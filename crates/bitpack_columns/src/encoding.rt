@@ -8,7 +8,6 @@ ghost use Rattle.bitpack_columns.specs.Numbers;
 ghost use Rattle.bitpack_columns.specs.Written.{AppendsColumn, MeasuresColumn, WritesColumn, refusal};
 
 pub(crate) mod bodies;
-pub(crate) mod copying;
 pub(crate) mod measuring;
 pub(crate) mod order;
 pub(crate) mod parts;

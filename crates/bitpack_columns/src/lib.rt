@@ -25,3 +25,4 @@ pub use column_error::ColumnError;
 pub use column_kind::ColumnKind;
 pub use encoding::order::test_pushed;
 pub use encoding::{encode, encode_to, encoded_len};
+pub use reads::ColumnBytes;

@@ -17,16 +17,17 @@ mod tail;
 use crate::column::{BLOCK_LEN, Parts};
 use crate::column_error::ColumnError;
 use crate::column_kind::ColumnKind;
+use crate::reads::ColumnBytes;
 use bitpack_groups::unpack_number;
 use blocks::test_blocks;
 use numbers::{open_count, open_number};
 use tail::test_tail;
 
 /// Tests all bytes.
-#[tactic(auto, unfolding(crate::specs::Faults::fault))]
+#[tactic(auto, unfolding(crate::specs::Faults::fault, crate::specs::Faults::header_fault))]
 pub(crate) fn test_column<'a>(bytes: &'a [u8]) -> Result<Parts<'a>, ColumnError>
     ensures fault { Finds result (fault bytes.now) }
-    ensures states { IfOk result (λ parts. States bytes.now parts.kind parts.count parts.first parts.rest.now) }
+    ensures states { IfOk result (λ parts. States bytes.now parts.kind parts.count parts.first parts.rest.bytes.now) }
 {
     if bytes.is_empty() {
         return Err(ColumnError::Short);
@@ -35,30 +36,15 @@ pub(crate) fn test_column<'a>(bytes: &'a [u8]) -> Result<Parts<'a>, ColumnError>
     if byte < 64 || byte > 127 {
         return Err(ColumnError::BadVersion(byte));
     }
-    let parts = test_header(bytes)?;
-    test_rest(parts.kind, parts.first, parts.count, parts.rest)?;
-    Ok(parts)
-}
-
-/// Tests the count and the first value, and returns what the first bytes state.
-#[tactic(auto, unfolding(crate::specs::Faults::header_fault))]
-fn test_header<'a>(bytes: &'a [u8]) -> Result<Parts<'a>, ColumnError>
-    requires { 1 ≤ length bytes.now }
-    ensures fault { Finds result (header_fault bytes.now) }
-    ensures kind { IfOk result (λ parts. parts.kind ≡ kind_in bytes.now) }
-    ensures count { IfOk result (λ parts. parts.count ≡ count_in bytes.now) }
-    ensures few { IfOk result (λ parts. parts.count ≤ 2 ^ 28) }
-    ensures first { IfOk result (λ parts. parts.first ≡ first_in bytes.now) }
-    ensures rest { IfOk result (λ parts. parts.rest.now ≡ rest_in bytes.now) }
-{
-    let kind = kind_of(bytes[0]);
+    let kind = kind_of(byte);
     let (count, later) = test_count(bytes)?;
     let (first, rest) = test_first(kind, count, later)?;
+    test_rest(kind, first, count, rest)?;
     Ok(Parts {
         kind,
         count,
         first,
-        rest,
+        rest: ColumnBytes::new(rest),
     })
 }
 
@@ -134,7 +120,7 @@ fn test_rest(kind: ColumnKind, first: u32, count: usize, rest: &[u8]) -> Result<
 /// What the first bytes of a column without a fault state, and what is after them.
 pub(crate) fn read_parts<'a>(bytes: &'a [u8]) -> Parts<'a>
     requires { fault bytes.now ≡ None }
-    ensures { States bytes.now result.kind result.count result.first result.rest.now }
+    ensures { States bytes.now result.kind result.count result.first result.rest.bytes.now }
 {
     let kind = kind_of(bytes[0]);
     let (count, later) = read_count(bytes);
@@ -143,7 +129,7 @@ pub(crate) fn read_parts<'a>(bytes: &'a [u8]) -> Parts<'a>
         kind,
         count,
         first,
-        rest,
+        rest: ColumnBytes::new(rest),
     }
 }
 

@@ -1,19 +1,39 @@
-//! What searches, ranges, bounds and single values read of a column: each mark and each block that is unpacked counts in `Reads`. Opening,
-//! copying, appending and cursors count nothing.
+//! What is read of an opened column: each mark, each width and each block that is unpacked counts in `Reads`. Its bytes are hidden from all
+//! other files.
 
-ghost use Rattle.std.specs.Prelude.{◌≡◌, ℕ, ◌+◌, ◌-◌, ◌*◌, ◌%◌, ◌<◌, ◌≤◌, length, min, slice_index, take};
+ghost use Rattle.std.specs.Prelude.{◌≡◌, ℕ, ◌+◌, ◌-◌, ◌*◌, ◌/◌, ◌%◌, ◌^◌, ◌<◌, ◌≤◌, drop, length, min, slice_index, take};
 ghost use Rattle.std.specs.Borrow.{ftrue};
-ghost use Rattle.bitpacking.specs.Layout.{codes_of};
-ghost use Rattle.bitpack_columns.specs.declared.column_kind.ColumnKind.TheVariants.{Sorted};
-ghost use Rattle.bitpack_columns.specs.Columns.{block_of, mark_of, tail_of};
+ghost use Rattle.bitpack_columns.specs.declared.column_kind.ColumnKind.TheVariants.{Plain, Sorted};
+ghost use Rattle.bitpack_columns.specs.Columns.{block_of, mark_of, tail_of, width_in};
 ghost use Rattle.bitpack_columns.specs.Opened.{blocks_of, kind_of, values};
+ghost use Rattle.bitpack_columns.specs.Reads.{codes_at};
 
-use crate::column::Column;
+mod blocks;
+pub(crate) mod copying;
+
+use crate::code::code_at;
+use crate::column::{BLOCK_LEN, Column};
 use bitpacking::{BitPacker, BitPacker4x, Kind};
 use std::marker::{Model, PhantomData};
 use std::mem::size_of;
 
-/// How many marks were read, and how many blocks were unpacked. The tail counts as a block.
+/// Bytes of an opened column. Functions that count in [`Reads`] read them, and no others.
+#[repr(C)]
+#[derive(Clone, Copy)]
+pub struct ColumnBytes<'a> {
+    bytes: &'a [u8],
+}
+
+impl<'a> ColumnBytes<'a> {
+    #[inline(always)]
+    pub(crate) fn new(bytes: &'a [u8]) -> ColumnBytes<'a>
+        ensures { result.bytes.now ≡ bytes.now }
+    {
+        ColumnBytes { bytes }
+    }
+}
+
+/// How many marks were read, and how many blocks were unpacked. The tail counts as a block, and the width of a block as a mark.
 ///
 /// To unpack a block also reads its ends and a mark: this counts as the block alone.
 ///
@@ -63,6 +83,21 @@ impl Reads {
         column.mark(block)
     }
 
+    /// Reads the width of a block. In a plain column its values are below its mark and 2 to the power of the width.
+    #[inline(always)]
+    pub(crate) fn read_width(&mut self, column: &Column, block: usize) -> u8
+        requires { block < blocks_of column.now }
+        ensures is { result ≡ width_in (kind_of column.now) (values column.now) block }
+        ensures narrow { result ≤ 32 }
+        ensures fits { kind_of column.now ≡ Plain → (k : ℕ) → k < 128
+            → slice_index (values column.now) (128 * block + k)
+            < mark_of Plain (block_of block (values column.now)) + 2 ^ result }
+        ensures reads { ReadsMarks 1 self.old self.new }
+    {
+        self.record(1, 0);
+        column.width(block)
+    }
+
     /// Reads the value before a block of a sorted column, which is a mark. Before the first block it is the first value.
     #[inline(always)]
     pub(crate) fn read_before(&mut self, column: &Column, block: usize) -> u32
@@ -93,17 +128,52 @@ impl Reads {
         column.read_block(block, out)
     }
 
-    /// Unpacks the codes of the body of a block.
-    #[inline(always)]
-    pub(crate) fn unpack_codes(&mut self, width: u8, body: &[u8], codes: &mut [u32])
-        requires width { width ≤ 32 }
-        requires body { length body.now ≡ 16 * width }
-        requires room { length codes.old ≡ 128 }
-        ensures codes { codes.new ≡ codes_of 4 width body.now }
+    /// Unpacks blocks from one on, each straight to its position, as many as the slice has room for.
+    pub(crate) fn unpack_blocks(&mut self, column: &Column, start: usize, out: &mut [u32])
+        requires whole { length out.old % 128 ≡ 0 }
+        requires within { 128 * start + length out.old ≤ length (values column.now) }
+        ensures values { out.new ≡ take (length out.old) (drop (128 * start) (values column.now)) }
+        ensures marks { self.new.marks ≡ self.old.marks }
+        ensures blocks { self.new.blocks ≡ self.old.blocks + length out.old / 128 }
+    {
+        self.record(0, (out.len() / BLOCK_LEN) as u32);
+        column.unpack_blocks(start, out);
+    }
+
+    /// Unpacks the tail.
+    pub(crate) fn unpack_tail(&mut self, column: &Column, out: &mut [u32])
+        requires { length out.old ≡ length (values column.now) % 128 }
+        ensures values { out.new ≡ tail_of (blocks_of column.now) (values column.now) }
         ensures reads { UnpacksBlock self.old self.new }
     {
         self.record(0, 1);
-        BitPacker4x::new().decompress_kind(Kind::Plain, body, codes, width);
+        column.unpack_tail(out);
+    }
+
+    /// Unpacks the codes of a block.
+    #[inline(always)]
+    pub(crate) fn unpack_codes(&mut self, column: &Column, block: usize, codes: &mut [u32; 128])
+        requires { block < blocks_of column.now }
+        ensures codes { codes.new ≡ codes_at (blocks_of column.now) column.now.rest.bytes.now block }
+        ensures reads { UnpacksBlock self.old self.new }
+    {
+        self.record(0, 1);
+        let width = column.width(block);
+        BitPacker4x::new().decompress_kind(Kind::Plain, column.body(block), codes, width);
+    }
+
+    /// The value at an index of a block of a plain column, by its bits and the mark.
+    #[inline(always)]
+    pub(crate) fn read_value(&mut self, column: &Column, block: usize, index: usize) -> u32
+        requires block { block < blocks_of column.now }
+        requires index { index < 128 }
+        requires plain { kind_of column.now ≡ Plain }
+        ensures value { result ≡ slice_index (block_of block (values column.now)) index }
+        ensures reads { ReadsMarks 1 self.old self.new }
+    {
+        self.record(1, 0);
+        let code = code_at(column.width(block), column.body(block), index);
+        column.mark(block).wrapping_add(code)
     }
 
     /// The value at an index of the tail, whose groups are unpacked up to the value's.

@@ -1,16 +1,12 @@
 //! Codes in groups of 32, the last of 1 to 32.
 
-ghost use Rattle.std.specs.Prelude.{◌≡◌, ◌+◌, ◌*◌, ◌^◌, ◌≤◌, ◌++◌, ℕ, List, IfOk, OnErr, OnOk, None, length, min, take};
+ghost use Rattle.std.specs.Prelude.{◌≡◌, ◌+◌, ◌*◌, ◌^◌, ◌≤◌, ℕ, List, IfOk, OnOk, None, length, min, take};
 ghost use Rattle.bitpack_groups.specs.Faults.{FindsFault};
 ghost use Rattle.bitpack_groups.specs.Groups.{AreGroups, after_groups, groups_codes, groups_fault, groups_of};
 
 use crate::group::{LONGEST_GROUP, group_size, test_group, unpack_group, write_group};
 use crate::group_error::GroupError;
 use crate::widths::least_width;
-use std::alloc::AllocError;
-
-/// The most bytes of a group: its width, and 32 codes at 32 bits each.
-const LONGEST_GROUP_BYTES: usize = 129;
 
 /// How many codes the next group has, if `left` codes are left.
 pub fn next_len(left: usize) -> usize
@@ -101,21 +97,4 @@ pub fn groups_len(codes: &[u32]) -> usize
         len += 1 + group_size(count, width);
     }
     len
-}
-
-/// Appends the groups of the codes. If memory runs out, nothing changes.
-pub fn append_groups(codes: &[u32], out: &mut Vec<u8>) -> Result<(), AllocError>
-    ensures run { OnOk result ((groups : List ℕ) → AreGroups (groups_of (length codes.now)) codes.now groups
-        → out.new.items ≡ out.old.items ++ groups) }
-    ensures unchanged { OnErr result (out.new.items ≡ out.old.items) }
-{
-    out.reserve(groups_len(codes))?;
-    let mut group = [0; LONGEST_GROUP_BYTES];
-    for index in 0..(codes.len() + 31) / LONGEST_GROUP {
-        let from = LONGEST_GROUP * index;
-        let count = next_len(codes.len() - from);
-        let len = write_group(&codes[from..from + count], &mut group);
-        out.extend_from_slice(&group[..len]).unwrap();
-    }
-    Ok(())
 }

@@ -13,10 +13,9 @@ mod widths;
 
 pub use group::{LONGEST_GROUP, group_size, test_group, unpack_group, write_group};
 pub use group_error::GroupError;
-pub use groups::{append_groups, groups_len, next_len, test_groups, unpack_groups, write_groups};
+pub use groups::{groups_len, next_len, test_groups, unpack_groups, write_groups};
 pub use integers::{byte_count, read_integer, write_at, write_integer};
 pub use numbers::{
-    LONGEST_LIST, LONGEST_NUMBER, append_number, number_len, test_count, test_number,
-    unpack_number, write_number,
+    LONGEST_LIST, LONGEST_NUMBER, number_len, test_count, test_number, unpack_number, write_number,
 };
 pub use widths::{fits_less, least_width, most_significant_bit};

@@ -1,11 +1,10 @@
 //! Numbers of one to five bytes: seven bits a byte, the lowest first, with 128 added to every byte but the last.
 
-ghost use Rattle.std.specs.Prelude.{◌≡◌, ◌+◌, ◌^◌, ◌≤◌, ◌++◌, ℕ, IfOk, IsOk, OnErr, OnOk, None, length, take, vec_capacity, vec_len};
+ghost use Rattle.std.specs.Prelude.{◌≡◌, ◌^◌, ◌≤◌, ℕ, IfOk, None, length, take};
 ghost use Rattle.bitpack_groups.specs.Faults.{FindsFault};
 ghost use Rattle.bitpack_groups.specs.Numbers.{count_fault, number, number_end, number_fault, number_value};
 
 use crate::group_error::GroupError;
-use std::alloc::AllocError;
 
 /// The most bytes of a number.
 pub const LONGEST_NUMBER: usize = 5;
@@ -107,15 +106,4 @@ pub fn number_len(value: u32) -> usize
         len += 1;
     }
     len
-}
-
-/// Appends the bytes of the number. If memory runs out, nothing changes.
-pub fn append_number(value: u32, out: &mut Vec<u8>) -> Result<(), AllocError>
-    ensures ok { OnOk result (out.new.items ≡ out.old.items ++ number value) }
-    ensures room { vec_len out.old + length (number value) ≤ vec_capacity out.old → IsOk result }
-    ensures unchanged { OnErr result (out.new.items ≡ out.old.items) }
-{
-    let mut bytes = [0; LONGEST_NUMBER];
-    let len = write_number(value, &mut bytes);
-    out.extend_from_slice(&bytes[..len])
 }

@@ -1,6 +1,6 @@
 //! A walk through the blocks of a word.
 
-ghost use Rattle.std.specs.Prelude.{◌≡◌, ℕ, ◌+◌, ◌-◌, ◌*◌, ◌<◌, ◌≤◌, length, min, slice_index, take};
+ghost use Rattle.std.specs.Prelude.{◌≡◌, ℕ, ◌+◌, ◌-◌, ◌*◌, ◌^◌, ◌<◌, ◌≤◌, length, min, slice_index, take};
 ghost use Rattle.bitpack_ranked.specs.inner.Walks.{AreOfBlock, IsLow, IsMost};
 
 use crate::as_term::AsTerm;
@@ -45,7 +45,9 @@ impl Walk {
     }
 
     /// No blocks were unpacked.
-    pub(crate) fn clear(&mut self) {
+    pub(crate) fn clear(&mut self)
+        ensures { self.new.unpacked ≡ 0 }
+    {
         self.unpacked = 0;
     }
 
@@ -96,6 +98,7 @@ impl Walk {
         ensures counts { AreOfBlock (T.its_word term.now).counts block self.new.len self.new.counts }
         ensures most { IsMost result (T.its_word term.now) block }
         ensures low { self.new.low ≡ self.old.low }
+        ensures unpacked { self.old.unpacked + 1 < 2 ^ 64 → self.new.unpacked ≡ self.old.unpacked + 1 }
     {
         self.unpacked = self.unpacked.wrapping_add(1);
         self.len = term.counts().copy_range(BLOCK * block, &mut self.counts);

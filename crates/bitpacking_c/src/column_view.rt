@@ -10,7 +10,7 @@ ghost use Rattle.bitpack_columns.specs.Stated.{kind_in, values_in};
 ghost use Rattle.bitpacking_c.specs.Columns.{EncodeColumn, column_fault_number, known_kind};
 ghost use Rattle.bitpacking_c.specs.Views.{Gets, UnpacksFrom, UnpacksValues};
 
-use bitpack_columns::{Column, ColumnKind, Parts};
+use bitpack_columns::{Column, ColumnBytes, ColumnKind, Parts};
 
 /// A column that was opened. It borrows its bytes, which do not change while the view is used.
 ///
@@ -21,11 +21,11 @@ pub struct ColumnView<'a> {
     bytes: &'a [u8],
     count: usize,
     // What is after the count and the first value.
-    rest: &'a [u8],
+    rest: ColumnBytes<'a>,
     first: u32,
     kind: u8,
     // Only a view that was opened has bytes. What opening them found is stored in it.
-    ghost opened: { bytes.now ≢ [] → States bytes.now (known_kind kind) count first rest.now },
+    ghost opened: { bytes.now ≢ [] → States bytes.now (known_kind kind) count first rest.bytes.now },
     ghost counted: { count ≡ length (values_in bytes.now) },
     ghost numbered: { kind ≡ kind_bit (kind_in bytes.now) },
 }

@@ -3,6 +3,7 @@
 use super::packing::packed;
 use super::{Column, ColumnBuf, Error};
 use crate::columns;
+use alloc::vec::Vec;
 
 impl Column {
     /// Returns the column of the values of this column and then these values, of its kind. It copies the bodies of whole blocks, and packs only
@@ -45,6 +46,6 @@ impl Column {
     /// # Ok::<(), Error>(())
     /// ```
     pub fn join(&self, other: &Column, base: u32) -> Result<ColumnBuf, Error> {
-        packed(|bytes| columns::join(&self.code, base, &other.code, bytes))
+        packed(|bytes| columns::join(&self.code, base, &other.code, &mut Vec::new(), bytes))
     }
 }

@@ -1,6 +1,6 @@
 //! The values of a column and of another one after it, each of these with a base added, written as one column.
 
-ghost use Rattle.std.specs.Prelude.{◌≡◌, ◌⊎◌, ◌≤◌, ◌++◌, Err, IfErr, MatchOption, OnErr, OnOk, length, vec_capacity};
+ghost use Rattle.std.specs.Prelude.{◌≡◌, ◌⊎◌, ◌+◌, ◌<◌, ◌≤◌, ◌++◌, Err, IfErr, MatchOption, None, OnErr, OnOk, length, vec_capacity, vec_len};
 ghost use Rattle.bitpack_columns.specs.Columns.{IsColumn, encoding};
 ghost use Rattle.bitpack_columns.specs.Errors.{Finds};
 ghost use Rattle.bitpack_columns.specs.Opened.{kind_of, values};
@@ -12,7 +12,6 @@ use crate::column_error::ColumnError;
 use crate::column_kind::ColumnKind;
 use crate::encoding::measuring::bounds;
 use crate::tail::to_values;
-use std::alloc::Global;
 
 /// Writes the encoding of the values of a column and, after them, of the values of another column with `base` added to each, at the start of
 /// the slice, and returns its length in bytes. It has the kind of the first column. Allocates nothing.
@@ -40,28 +39,32 @@ pub fn join_to(
 /// Appends the encoding of the values of a column and, after them, of the values of another column with `base` added to each. It has the kind
 /// of the first column.
 ///
-/// It allocates for the values of the other column, and the vector grows at most once. Fails as [`join_to`] does, with `Memory` if memory runs
-/// out.
+/// The values of the other column are written to `room`, whose items are lost. Both vectors grow at most once. Fails as [`join_to`] does, with
+/// `Memory` if one of them cannot grow: `room` by the values of the other column before a fault is looked for, `out` by the encoding.
 pub fn join(
-    alloc: Global,
     column: &Column,
     base: u32,
     other: &Column,
+    room: &mut Vec<u32>,
     out: &mut Vec<u8>,
 ) -> Result<(), ColumnError>
     ensures column { OnOk result (IsColumn (kind_of column.now) (values column.now ++ raised base (values other.now))) }
     ensures ok { OnOk result (out.new.items
         ≡ out.old.items ++ encoding (kind_of column.now) (values column.now ++ raised base (values other.now))) }
-    // A fault is not found if there is no memory for the values of the other column.
+    // A fault is not found if there is no room for the values of the other column.
     ensures fault { MatchOption (joined_refusal (kind_of column.now) (values column.now) base (values other.now))
-        (IfErr result (λ e. e ≡ ColumnError.Memory)) (λ fault. (result ≡ Err fault) ⊎ (result ≡ Err ColumnError.Memory)) }
+        (IfErr result (λ e. e ≡ ColumnError.Memory)) (λ fault. (result ≡ Err fault)
+        ⊎ ((result ≡ Err ColumnError.Memory) × (vec_capacity room.old < length (values other.now)))) }
+    ensures room { joined_refusal (kind_of column.now) (values column.now) base (values other.now) ≡ None
+        → OnErr result ((vec_capacity room.old < length (values other.now)) ⊎ (vec_capacity out.old < vec_len out.old
+        + length (encoding (kind_of column.now) (values column.now ++ raised base (values other.now))))) }
     ensures unchanged { OnErr result (out.new.items ≡ out.old.items) }
     ensures capacity { OnErr result (vec_capacity out.new ≡ vec_capacity out.old) }
 {
-    let mut more = Vec::new(alloc);
-    other.append_to(&mut more)?;
-    add_base(base, more.slice_mut(..))?;
-    append(column, more.as_slice(), out)
+    room.clear();
+    other.append_to(room)?;
+    add_base(base, room.slice_mut(..))?;
+    append(column, room.as_slice(), out)
 }
 
 /// Adds a base to each value, if each is a word then.

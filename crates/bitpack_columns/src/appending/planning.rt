@@ -8,10 +8,11 @@ ghost use Rattle.bitpack_columns.specs.Opened.{blocks_of, kind_of, values};
 
 use crate::column::{BLOCK_LEN, Column};
 use crate::column_kind::ColumnKind;
-use crate::encoding::copying::{front_greatest, front_total};
 use crate::encoding::measuring::{Measured, measure_blocks};
 use crate::encoding::parts::{LONGEST_HEADER, LONGEST_TAIL, write_header, write_tail};
 use crate::encoding::{Plan, blocks_len};
+use crate::reads::Reads;
+use crate::reads::copying::{front_greatest, front_total};
 
 /// Measures the encoding of the values of the whole blocks of a column and of the packed ones after them. Writes the header and the tail here,
 /// and caches the widths of the first blocks that are packed.
@@ -22,6 +23,7 @@ pub(crate) fn plan_after(
     widths: &mut [u8],
     header: &mut [u8],
     tail: &mut [u8],
+    reads: &mut Reads,
 ) -> Plan
     requires whole { (length filled.now ≡ 0) ⊎ (length filled.now ≡ BLOCK_LEN) }
     requires column { IsColumn (kind_of column.now) (extended column.now (filled.now ++ later.now)) }
@@ -38,11 +40,11 @@ pub(crate) fn plan_after(
     let copied = column.blocks();
     let count = filled.len() + later.len();
     let blocks = copied + count / BLOCK_LEN;
-    let before = value_after(column, filled, later);
+    let before = value_after(column, filled, later, reads);
     let measured = measure_both(column.kind, before, filled, later, widths);
     let all = Measured {
-        total: copied_total(column) as usize + measured.total,
-        greatest: front_greatest(column).max(measured.greatest),
+        total: copied_total(column, reads) as usize + measured.total,
+        greatest: front_greatest(column, reads).max(measured.greatest),
         last: measured.last,
         rises: measured.rises,
     };
@@ -87,24 +89,24 @@ fn measure_both(
 }
 
 /// The sum of the widths of the blocks of a column.
-pub(crate) fn copied_total(column: &Column) -> u32
+pub(crate) fn copied_total(column: &Column, reads: &mut Reads) -> u32
     ensures { result ≡ sum_to (width_after (kind_of column.now) (first_value column.now) (values column.now))
         (blocks_of column.now) }
 {
     if column.blocks() == 0 {
         return 0;
     }
-    front_total(column)
+    front_total(column, reads)
 }
 
 /// What the packed values of a sorted column follow.
-pub(crate) fn value_after(column: &Column, filled: &[u32], later: &[u32]) -> u32
+pub(crate) fn value_after(column: &Column, filled: &[u32], later: &[u32], reads: &mut Reads) -> u32
     ensures { result ≡ packed_after column.now (filled.now ++ later.now) }
 {
     if column.blocks() == 0 {
         return first_packed(filled, later);
     }
-    column.mark(column.blocks() - 1)
+    reads.read_mark(column, column.blocks() - 1)
 }
 
 /// The first value of the whole blocks of a sorted column and of the packed ones after them, 0 if there is none.

@@ -11,10 +11,11 @@ use crate::column::{BLOCK_LEN, Column};
 use crate::column_error::ColumnError;
 use crate::column_kind::ColumnKind;
 use crate::encoding::bodies::write_entries;
-use crate::encoding::copying::copy_front;
 use crate::encoding::measuring::Measured;
 use crate::encoding::parts::{LONGEST_HEADER, LONGEST_TAIL};
 use crate::encoding::{FEW_WIDTHS, MANY_WIDTHS, append_zeros};
+use crate::reads::Reads;
+use crate::reads::copying::copy_front;
 use bitpack_groups::byte_count;
 
 /// Writes the encoding of the values of the whole blocks of a column and of the packed ones after them at the start of the slice.
@@ -23,15 +24,16 @@ pub(crate) fn write_packed(
     filled: &[u32],
     later: &[u32],
     out: &mut [u8],
+    reads: &mut Reads,
 ) -> Result<usize, ColumnError>
     requires whole { (length filled.now ≡ 0) ⊎ (length filled.now ≡ BLOCK_LEN) }
     requires column { IsColumn (kind_of column.now) (extended column.now (filled.now ++ later.now)) }
     ensures { WritesColumn (kind_of column.now) (extended column.now (filled.now ++ later.now)) result out.old out.new }
 {
     if later.len() / BLOCK_LEN < FEW_WIDTHS {
-        return write_planned(column, filled, later, &mut [0; FEW_WIDTHS], out);
+        return write_planned(column, filled, later, &mut [0; FEW_WIDTHS], out, reads);
     }
-    write_planned(column, filled, later, &mut [0; MANY_WIDTHS], out)
+    write_planned(column, filled, later, &mut [0; MANY_WIDTHS], out, reads)
 }
 
 /// Appends the encoding of the values of the whole blocks of a column and of the packed ones after them.
@@ -40,15 +42,16 @@ pub(crate) fn append_packed(
     filled: &[u32],
     later: &[u32],
     out: &mut Vec<u8>,
+    reads: &mut Reads,
 ) -> Result<(), ColumnError>
     requires whole { (length filled.now ≡ 0) ⊎ (length filled.now ≡ BLOCK_LEN) }
     requires column { IsColumn (kind_of column.now) (extended column.now (filled.now ++ later.now)) }
     ensures { AppendsColumn (kind_of column.now) (extended column.now (filled.now ++ later.now)) result out.old out.new }
 {
     if later.len() / BLOCK_LEN < FEW_WIDTHS {
-        return append_planned(column, filled, later, &mut [0; FEW_WIDTHS], out);
+        return append_planned(column, filled, later, &mut [0; FEW_WIDTHS], out, reads);
     }
-    append_planned(column, filled, later, &mut [0; MANY_WIDTHS], out)
+    append_planned(column, filled, later, &mut [0; MANY_WIDTHS], out, reads)
 }
 
 /// Writes the encoding as [`write_packed`] does, with room for cached widths.
@@ -58,6 +61,7 @@ fn write_planned(
     later: &[u32],
     widths: &mut [u8],
     out: &mut [u8],
+    reads: &mut Reads,
 ) -> Result<usize, ColumnError>
     requires whole { (length filled.now ≡ 0) ⊎ (length filled.now ≡ BLOCK_LEN) }
     requires column { IsColumn (kind_of column.now) (extended column.now (filled.now ++ later.now)) }
@@ -66,7 +70,7 @@ fn write_planned(
 {
     let mut header = [0; LONGEST_HEADER];
     let mut tail = [0; LONGEST_TAIL];
-    let plan = plan_after(column, filled, later, widths, &mut header, &mut tail);
+    let plan = plan_after(column, filled, later, widths, &mut header, &mut tail, reads);
     let len = plan.len;
     if out.len() < len {
         return Err(ColumnError::Short);
@@ -81,6 +85,7 @@ fn write_planned(
         &header[..plan.header],
         &tail[..plan.tail],
         bytes,
+        reads,
     );
     Ok(len)
 }
@@ -92,6 +97,7 @@ fn append_planned(
     later: &[u32],
     widths: &mut [u8],
     out: &mut Vec<u8>,
+    reads: &mut Reads,
 ) -> Result<(), ColumnError>
     requires whole { (length filled.now ≡ 0) ⊎ (length filled.now ≡ BLOCK_LEN) }
     requires column { IsColumn (kind_of column.now) (extended column.now (filled.now ++ later.now)) }
@@ -100,7 +106,7 @@ fn append_planned(
 {
     let mut header = [0; LONGEST_HEADER];
     let mut tail = [0; LONGEST_TAIL];
-    let plan = plan_after(column, filled, later, widths, &mut header, &mut tail);
+    let plan = plan_after(column, filled, later, widths, &mut header, &mut tail, reads);
     let len = plan.len;
     if out.reserve(len).is_err() {
         return Err(ColumnError::Memory);
@@ -117,6 +123,7 @@ fn append_planned(
         &header[..plan.header],
         &tail[..plan.tail],
         bytes,
+        reads,
     );
     Ok(())
 }
@@ -132,6 +139,7 @@ fn write_after(
     header: &[u8],
     tail: &[u8],
     out: &mut [u8],
+    reads: &mut Reads,
 )
     requires whole { (length filled.now ≡ 0) ⊎ (length filled.now ≡ BLOCK_LEN) }
     requires column { IsColumn (kind_of column.now) (extended column.now (filled.now ++ later.now)) }
@@ -146,7 +154,7 @@ fn write_after(
     front.copy_from_slice(header);
     end.copy_from_slice(tail);
     if !blocks.is_empty() {
-        write_blocks_after(column, filled, later, measured, widths, blocks);
+        write_blocks_after(column, filled, later, measured, widths, blocks, reads);
     }
 }
 
@@ -159,6 +167,7 @@ fn write_blocks_after(
     measured: Measured,
     widths: &[u8],
     out: &mut [u8],
+    reads: &mut Reads,
 )
     requires whole { (length filled.now ≡ 0) ⊎ (length filled.now ≡ BLOCK_LEN) }
     requires column { IsColumn (kind_of column.now) (extended column.now (filled.now ++ later.now)) }
@@ -174,7 +183,7 @@ fn write_blocks_after(
 {
     let copied = column.blocks();
     let blocks = copied + (filled.len() + later.len()) / BLOCK_LEN;
-    let start = copied_total(column);
+    let start = copied_total(column, reads);
     let end_size = byte_count(measured.total as u32);
     let mark_size = byte_count(measured.greatest);
     let (sizes, rest) = out.split_at_mut(1);
@@ -184,10 +193,12 @@ fn write_blocks_after(
     let (old_ends, new_ends) = ends.split_at_mut(end_size * copied);
     let (old_marks, new_marks) = marks.split_at_mut(mark_size * copied);
     let (old_bodies, new_bodies) = bodies.split_at_mut(16 * start as usize);
-    copy_old(column, end_size, mark_size, old_ends, old_marks, old_bodies);
+    copy_old(
+        column, end_size, mark_size, old_ends, old_marks, old_bodies, reads,
+    );
     write_both(
         column.kind,
-        value_after(column, filled, later),
+        value_after(column, filled, later, reads),
         start,
         end_size,
         mark_size,
@@ -208,6 +219,7 @@ fn copy_old(
     ends: &mut [u8],
     marks: &mut [u8],
     bodies: &mut [u8],
+    reads: &mut Reads,
 )
     requires sizes { (end_size ≤ 4) × (mark_size ≤ 4) }
     requires ends { length ends.old ≡ end_size * blocks_of column.now }
@@ -219,7 +231,7 @@ fn copy_old(
     ensures bodies { bodies.new ≡ bodies_encoding (kind_of column.now) (first_value column.now) (values column.now) }
 {
     if column.blocks() > 0 {
-        copy_front(column, end_size, mark_size, ends, marks, bodies);
+        copy_front(column, end_size, mark_size, ends, marks, bodies, reads);
     }
 }
 

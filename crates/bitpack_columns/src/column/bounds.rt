@@ -42,10 +42,11 @@ impl<'a> Column<'a> {
         ensures bounds { AreBounds Plain (values self.now) block result.0 result.1 }
         ensures least { result.0 ≡ least_in self.now block }
         ensures greatest { result.1 ≡ greatest_in self.now block }
-        ensures reads { ReadsMarks 1 reads.old reads.new }
+        ensures reads { ReadsMarks 2 reads.old reads.new }
     {
         let mark = reads.read_mark(self, block);
-        (mark, mark.saturating_add(greatest_code(self.width(block))))
+        let most = greatest_code(reads.read_width(self, block));
+        (mark, mark.saturating_add(most))
     }
 }
 

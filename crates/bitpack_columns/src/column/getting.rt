@@ -1,7 +1,6 @@
 //! The values at positions of a column.
 
 ghost use Rattle.std.specs.Prelude.{◌≡◌, ℕ, ◌+◌, ◌-◌, ◌*◌, ◌/◌, ◌%◌, ◌^◌, ◌<◌, ◌≤◌, IfErr, MatchOption, OnErr, OnOk, drop, length, slice_get, slice_index, true};
-ghost use Rattle.bitpacking.specs.Layout.{codes_of};
 ghost use Rattle.bitpack_columns.specs.declared.column_kind.ColumnKind.TheVariants.{Plain, Sorted};
 ghost use Rattle.bitpack_columns.specs.Gathering.{AreWithin, CachesBlock, HasValues};
 ghost use Rattle.bitpack_columns.specs.Columns.{block_of};
@@ -10,7 +9,6 @@ ghost use Rattle.bitpack_columns.specs.Opened.{blocks_of, kind_of, values};
 ghost use Rattle.bitpack_columns.specs.Ranges.{HasAll, IsFirstBeyond};
 ghost use Rattle.bitpack_columns.specs.Reads.{values_of};
 
-use crate::code::code_at;
 use crate::column::{BLOCK_LEN, Column};
 use crate::column_kind::ColumnKind;
 use crate::reads::Reads;
@@ -54,16 +52,12 @@ impl<'a> Column<'a> {
         ensures blocks { reads.new.blocks ≤ reads.old.blocks + 1 }
         ensures plain { kind_of self.now ≡ Plain → reads.new.blocks ≡ reads.old.blocks }
     {
-        let width = self.width(block);
-        let body = self.body(block);
         match self.kind {
-            ColumnKind::Plain => {
-                let mark = reads.read_mark(self, block);
-                mark.wrapping_add(code_at(width, body, index))
-            }
+            ColumnKind::Plain => reads.read_value(self, block, index),
             ColumnKind::Sorted => {
-                let before = reads.read_before(self, block);
-                sum_of_codes(before, width, body, index, reads)
+                let mut codes = [0; BLOCK_LEN];
+                reads.unpack_codes(self, block, &mut codes);
+                sum(reads.read_before(self, block), &codes[..index + 1])
             }
         }
     }
@@ -168,19 +162,6 @@ impl LastBlock {
             values: [0; BLOCK_LEN],
         }
     }
-}
-
-/// The value at an index of a block of a sorted column: the codes up to it are added to the value before the block.
-fn sum_of_codes(before: u32, width: u8, body: &[u8], index: usize, reads: &mut Reads) -> u32
-    requires width { width ≤ 32 }
-    requires body { length body.now ≡ 16 * width }
-    requires index { index < 128 }
-    ensures value { result ≡ slice_index (values_of Sorted before (codes_of 4 width body.now)) index }
-    ensures blocks { reads.new.blocks ≡ reads.old.blocks + 1 }
-{
-    let mut codes = [0; BLOCK_LEN];
-    reads.unpack_codes(width, body, &mut codes);
-    sum(before, &codes[..index + 1])
 }
 
 /// The sum of a number and codes, modulo 2 to the power of 32.

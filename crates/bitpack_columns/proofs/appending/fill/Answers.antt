@@ -22,4 +22,4 @@ returns-clause-filled c =
     c.unpack_tail.auto.out ∙ c.split_at_mut-tail.ensures.front_len ∙ ap (λ (n : ℕ). n % 128) (sym (count_is column)) in
     let is : copied ≡ take taken more = c.copy_from_slice.ensures.after in
     front_taken c.unpack_tail.new.out copied _ (length (values column) % 128 + taken) (omega (arith, long, ap length is, length-take-le taken more le))
-    ∙ ap (λ (l : List ℕ). l ++ copied) c.unpack_tail.ensures ∙ ap (λ (l : List ℕ). tail_of (blocks_of column) (values column) ++ l) is
+    ∙ ap (λ (l : List ℕ). l ++ copied) c.unpack_tail.ensures.values ∙ ap (λ (l : List ℕ). tail_of (blocks_of column) (values column) ++ l) is

@@ -15,11 +15,11 @@ test_more-requires c = record { few = omega (arith, count_is c.args.column.now, 
 pub returns-clause-fault : goal.returns-clause-fault
 returns-clause-fault c =
     let column = c.args.column.now in
-    let follows : Follows column.kind (values column) column.count c.last_value.result = record {
+    let follows : Follows column.kind (values column) column.count c.last_value-last.result = record {
       count_is = count_is column;
       right = right_column column.kind (values column) (opened_column column);
-      none = c.last_value.ensures.none;
-      some = c.last_value.ensures.some;
+      none = c.last_value-last.ensures.none;
+      some = c.last_value-last.ensures.some;
     } in
     c.test_more.ensures (values column) follows
 

@@ -52,7 +52,7 @@ returns-clause-plan c =
     let top : c.max.result ≡ max c.front_greatest.result measured.greatest = omega (arith, c.max.ensures) in
     let whole : IsMeasured kind first all total (max c.front_greatest.result measured.greatest) measured.last =
     copied_measured column packed c.copied_total.result c.front_greatest.result c.value_after-before.result measured.total measured.greatest measured.last
-    c.copied_total.ensures c.front_greatest.ensures c.value_after-before.ensures c.measure_both-measured.ensures.measured in
+    c.copied_total.ensures c.front_greatest.ensures.mark c.value_after-before.ensures c.measure_both-measured.ensures.measured in
     let cached : AreWidths kind (packed_after column packed) packed c.measure_both-measured.new.widths =
     subst (λ (n : ℕ). AreWidths kind n packed c.measure_both-measured.new.widths) c.value_after-before.ensures c.measure_both-measured.ensures.widths in
     let count : length filled + length later ≡ length packed = sym (length-append filled later) in

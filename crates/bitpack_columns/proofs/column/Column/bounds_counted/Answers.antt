@@ -1,6 +1,7 @@
 -- The values of a sorted column are between the value before their block and its last.
-use Rattle.std.proofs.Common.{◌≡◌, ◌+◌, ◌-◌, ◌*◌, ℕ, get_or, subst, ◌∙◌, arith, inl, inr}
+use Rattle.std.proofs.Common.{◌≡◌, ◌+◌, ◌-◌, ◌*◌, ℕ, get_or, subst, sym, ap, ◌∙◌, arith, inl, inr}
 use Rattle.std.proofs.lemmas.Bool.{cases_eq}
+use Rattle.bitpack_columns.specs.declared.column_kind.ColumnKind.TheVariants.{Plain, Sorted}
 use Rattle.bitpack_columns.specs.Columns.{block_of, mark_of}
 use Rattle.bitpack_columns.specs.Opened.{values}
 use Rattle.bitpack_columns.proofs.OpenedLaws.{in_order, some_values, value_of_block}
@@ -27,6 +28,15 @@ returns-in-Sorted-clause-bounds c =
             )
       ];
       high = λ k lt. omega (arith, mark, in_order column sorted (128 * block + k) (128 * block + 127) (omega (arith, lt)) (omega (arith, room)));
-      last = λ _. mark;
-      before = λ _ some. omega (arith, c.read_before.ensures.later some);
+      least_is = λ plain.
+          let clash : Plain ≡ Sorted = sym plain ∙ sorted in
+          absurd cc;
+      greatest_is = λ plain.
+          let clash : Plain ≡ Sorted = sym plain ∙ sorted in
+          absurd cc;
+      before_is = λ _. elim (cases_eq block 0) [
+        | inl none ↦ c.read_before.ensures.first none ∙ ap (λ (m : ℕ). get_or (values column) (128 * m - 1) 0) (sym none)
+        | inr some ↦ c.read_before.ensures.later (omega (arith, some))
+      ];
+      last_is = λ _. mark;
     }

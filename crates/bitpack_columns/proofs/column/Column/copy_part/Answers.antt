@@ -17,7 +17,7 @@ returns-then-out-ge-BLOCK_LEN-clause-values c =
     let new : List ℕ = c.unpack_blocks.new.out in
     let here : 128 * (c.args.from / 128) ≡ c.args.from = omega arith in
     let size : length (take whole c.args.out.now) ≡ whole = length-take-le whole c.args.out.now (omega arith) in
-    take_at new (drop whole c.args.out.now) whole (c.unpack_blocks.auto.out ∙ size) ∙ c.unpack_blocks.ensures
+    take_at new (drop whole c.args.out.now) whole (c.unpack_blocks.auto.out ∙ size) ∙ c.unpack_blocks.ensures.values
     ∙ ap (λ n. take n (drop (128 * (c.args.from / 128)) all)) size ∙ ap (λ n. take whole (drop n all)) here
 
 pub returns-then-out-ge-BLOCK_LEN-clause-rest : goal.returns-then-out-ge-BLOCK_LEN-clause-rest
@@ -35,11 +35,11 @@ returns-clause-values c =
     let new : List ℕ = c.copy_from_slice.new.self in
     let here : 128 * block + index ≡ c.args.from = omega arith in
     let size : index + more - index ≡ more = omega arith in
-    let inside : index + more ≤ c.read_block-len.result = omega (arith, c.min-more.ensures, c.read_block-len.ensures.len, c.requires.within, c.requires.some) in
-    let few : index + more ≤ 128 = omega (arith, c.read_block-len.ensures.len) in
+    let inside : index + more ≤ c.unpack_block-len.result = omega (arith, c.min-more.ensures, c.unpack_block-len.ensures.len, c.requires.within, c.requires.some) in
+    let few : index + more ≤ 128 = omega (arith, c.unpack_block-len.ensures.len) in
     let room : more ≤ length c.args.out.now = omega (arith, c.min-more.ensures) in
     let long : length new ≡ more = omega (arith, c.copy_from_slice.auto.self, length-take-le more c.args.out.now room) in
     take_at new (drop more c.args.out.now) more long ∙ c.copy_from_slice.ensures.after
-    ∙ ap (λ n. take n (drop index c.read_block-len.new.out)) size
-    ∙ part_unpacked all c.read_block-len.new.out block index c.read_block-len.result more c.read_block-len.ensures.values inside few
+    ∙ ap (λ n. take n (drop index c.unpack_block-len.new.out)) size
+    ∙ part_unpacked all c.unpack_block-len.new.out block index c.unpack_block-len.result more c.unpack_block-len.ensures.values inside few
     ∙ ap (λ n. take more (drop n all)) here

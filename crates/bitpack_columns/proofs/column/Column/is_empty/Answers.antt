@@ -12,5 +12,5 @@ pub returns : goal.returns
 returns c =
     let column = c.args.self.now in
     let e : length (values column) ≡ column.count =
-    (is_read column.bytes.now column.kind column.count column.first column.rest.now column.are_bytes column.states).len in
+    (is_read column.bytes.bytes.now column.kind column.count column.first column.rest.bytes.now column.are_bytes column.states).len in
     (λ h. none (values column) (e ∙ eqb-true column.count 0 h), λ h. eq-eqb column.count 0 (sym e ∙ ap length h))

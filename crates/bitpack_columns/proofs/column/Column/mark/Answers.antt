@@ -10,4 +10,4 @@ mark_at-requires-clause-entries c = rw c.blocks-2.ensures (entries c.args.self.n
 pub returns : goal.returns
 returns c =
     let self = c.args.self.now in
-    c.mark_at.ensures ∙ ap (λ n. mark_at n self.rest.now c.args.block) c.blocks-2.ensures ∙ sym (mark_is self c.args.block c.requires)
+    c.mark_at.ensures ∙ ap (λ n. mark_at n self.rest.bytes.now c.args.block) c.blocks-2.ensures ∙ sym (mark_is self c.args.block c.requires)

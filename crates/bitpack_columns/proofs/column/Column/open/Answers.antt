@@ -6,9 +6,9 @@ use Rattle.bitpack_columns.proofs.column.Column.open.Goals as goal
 pub returns-clause-column : goal.returns-clause-column
 returns-clause-column c =
     let parts = c.in_ok-parts.parts in
-    (column_of c.args.bytes.now parts.kind parts.count parts.first parts.rest.now (AreBytes-from_slice c.args.bytes.now c.type_inv.bytes) c.in_ok-parts.ensures.states).0
+    rw c.new.ensures (column_of c.args.bytes.now parts.kind parts.count parts.first parts.rest.bytes.now (AreBytes-from_slice c.args.bytes.now c.type_inv.bytes) c.in_ok-parts.ensures.states).0
 
 pub returns-clause-encoding : goal.returns-clause-encoding
 returns-clause-encoding c =
     let parts = c.in_ok-parts.parts in
-    (column_of c.args.bytes.now parts.kind parts.count parts.first parts.rest.now (AreBytes-from_slice c.args.bytes.now c.type_inv.bytes) c.in_ok-parts.ensures.states).1
+    rw c.new.ensures (column_of c.args.bytes.now parts.kind parts.count parts.first parts.rest.bytes.now (AreBytes-from_slice c.args.bytes.now c.type_inv.bytes) c.in_ok-parts.ensures.states).1

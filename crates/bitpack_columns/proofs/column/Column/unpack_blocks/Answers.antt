@@ -69,7 +69,7 @@ slice_bounds-body-end c =
       start,
       rising self (c.args.start + c.loop-index.index) lt,
       body_end self (c.args.start + c.loop-index.index) lt,
-      lent_after c.bodies_start.result self.rest.now,
+      lent_after c.bodies_start.result self.rest.bytes.now,
       c.loop-index.invariant.begin_is,
       c.end_at-end.ensures,
     )
@@ -103,12 +103,12 @@ loop-index-preserved c =
     let end : ℕ = c.end_at-end.result in
     let start : ℕ = c.bodies_start.result in
     let base : ℕ = c.base_after-base.result in
-    let marks = mark_at (blocks_of self) self.rest.now in
+    let marks = mark_at (blocks_of self) self.rest.bytes.now in
     let before = c.loop-index.invariant in
     let lt : block < blocks_of self = omega (arith, c.requires.within, c.requires.whole, c.loop-index-test.true, c.loop-index.auto.out) in
     let bodies = rw c.blocks-blocks.ensures at c.bodies_start.ensures in
-    let width : end - begin ≡ width_at self.rest.now block = omega (arith, before.begin_is, c.end_at-end.ensures) in
-    let body : List ℕ = take (16 * end - 16 * begin) (drop (16 * begin) (take (length self.rest.now - start) (drop start self.rest.now))) in
+    let width : end - begin ≡ width_at self.rest.bytes.now block = omega (arith, before.begin_is, c.end_at-end.ensures) in
+    let body : List ℕ = take (16 * end - 16 * begin) (drop (16 * begin) (take (length self.rest.bytes.now - start) (drop start self.rest.bytes.now))) in
     let body_is = lent_body self block start begin end lt bodies before.begin_is c.end_at-end.ensures in
     let base_is = base_chosen self block lt c.mark-mark.result c.mark-mark.ensures c.loop-index.before base before.before_is c.base_after-base.ensures.plain
     c.base_after-base.ensures.sorted in
@@ -116,7 +116,7 @@ loop-index-preserved c =
     let long : length c.unpack_body.new.out ≡ 128 = ap length part_is ∙ length-block_of all block (some_values self block lt) in
     let room : 128 * index + 128 ≤ length c.loop-index.out = omega (arith, c.loop-index-test.true, c.loop-index.auto.out) in
     record {
-      begin_is = c.end_at-end.ensures ∙ sym (begin_next self.rest.now block) ∙ ap (begin_at self.rest.now) (next_block first index);
+      begin_is = c.end_at-end.ensures ∙ sym (begin_next self.rest.bytes.now block) ∙ ap (begin_at self.rest.bytes.now) (next_block first index);
       before_is = λ _. before_next self block lt c.mark-mark.result c.mark-mark.ensures ∙ ap (base_of Sorted self.first marks) (next_block first index);
       written = block_written (drop (128 * first) all) c.loop-index.out c.unpack_body.new.out index room long before.written (part_is ∙ block_after all first index);
     }

@@ -26,7 +26,7 @@ unpack_tail_values-requires-clause-sound c =
     let self = c.args.self.now in
     let count : ℕ = length c.args.out.now in
     let start = rw c.blocks-blocks.ensures at c.tail_start.ensures in
-    let tail : List ℕ = take (length self.rest.now - c.tail_start.result) (drop c.tail_start.result self.rest.now) in
+    let tail : List ℕ = take (length self.rest.bytes.now - c.tail_start.result) (drop c.tail_start.result self.rest.bytes.now) in
     let lent = lent_groups self count c.tail_base-base.result.1 tail c.requires c.tail_base-base.ensures.end (lent_tail self c.tail_start.result start) in
     (blocks_of self, rw (c.blocks-blocks.ensures, lent) (tail_groups self count c.requires))
 
@@ -35,6 +35,6 @@ returns c =
     let self = c.args.self.now in
     let count : ℕ = length c.args.out.now in
     let start = rw c.blocks-blocks.ensures at c.tail_start.ensures in
-    let tail : List ℕ = take (length self.rest.now - c.tail_start.result) (drop c.tail_start.result self.rest.now) in
+    let tail : List ℕ = take (length self.rest.bytes.now - c.tail_start.result) (drop c.tail_start.result self.rest.bytes.now) in
     tail_written self count c.tail_base-base.result.1 tail c.requires c.tail_base-base.ensures.end (lent_tail self c.tail_start.result start)
     c.tail_base-base.result.0 c.unpack_tail_values.new.out c.tail_base-base.ensures.base (rw c.blocks-blocks.ensures at c.unpack_tail_values.ensures)

@@ -31,7 +31,7 @@ unpack_tail_front-requires-clause-sound c =
     let self = c.args.self.now in
     let count : ℕ = self.count % 128 in
     let start = rw c.blocks-blocks.ensures at c.tail_start.ensures in
-    let tail : List ℕ = take (length self.rest.now - c.tail_start.result) (drop c.tail_start.result self.rest.now) in
+    let tail : List ℕ = take (length self.rest.bytes.now - c.tail_start.result) (drop c.tail_start.result self.rest.bytes.now) in
     let lent = lent_groups self count c.tail_base-base.result.1 tail (left_is self) c.tail_base-base.ensures.end (lent_tail self c.tail_start.result start) in
     (blocks_of self, rw (c.blocks-blocks.ensures, lent) (tail_groups self count (left_is self)))
 
@@ -41,7 +41,7 @@ returns c =
     let count : ℕ = self.count % 128 in
     let index : ℕ = c.args.index in
     let start = rw c.blocks-blocks.ensures at c.tail_start.ensures in
-    let tail : List ℕ = take (length self.rest.now - c.tail_start.result) (drop c.tail_start.result self.rest.now) in
+    let tail : List ℕ = take (length self.rest.bytes.now - c.tail_start.result) (drop c.tail_start.result self.rest.bytes.now) in
     let new : List ℕ = c.unpack_tail_front.new.out in
     let inside : index < length new =
     omega (arith, c.unpack_tail_front.auto.out, c.end_of_group-len.ensures.within, c.end_of_group-len.ensures.ends.within, length-take {A = ℕ}, length-replicate {A = ℕ}) in
