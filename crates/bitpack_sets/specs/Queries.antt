@@ -45,9 +45,8 @@ query_fault bitmaps sets steps = or_short bitmaps (most_waiting 0 steps) (fault_
 -- operation on two operands, `member` of a set.
 abbrev pub waiting_after : (Operation → Bool → Bool → Bool) → (ℕ → Bool) → List Bool → Step → List Bool
 waiting_after joined member waiting (Set i) = member i ∷ waiting
-waiting_after joined member [] (Combine operation) = []
-waiting_after joined member (b ∷ []) (Combine operation) = []
 waiting_after joined member (b ∷ a ∷ waiting) (Combine operation) = joined operation a b ∷ waiting
+waiting_after joined member waiting (Combine operation) = []
 
 abbrev pub evaluate : (Operation → Bool → Bool → Bool) → List Step → (ℕ → Bool) → List Bool
 evaluate joined steps member = fold (waiting_after joined member) [] steps

@@ -47,7 +47,8 @@ pub(super) fn combine(operation: Operation, sets: &[&IdSet]) -> Vec<u32> {
 
 /// The set that an operation on two sets gives.
 pub(super) fn combine_set(operation: Operation, one: &IdSet, other: &IdSet) -> IdSetBuf {
-    packed(|bytes| sets::combine_set(operation, &one.code(), &other.code(), bytes)).unwrap_or_else(|error| panic!("{error}"))
+    packed(|bytes| sets::combine_set(operation, &one.code(), &other.code(), &mut Vec::new(), bytes))
+        .unwrap_or_else(|error| panic!("{error}"))
 }
 
 /// Two sets combined. A call that returns a set allocates 4 bytes for each id of the answer, and the bytes of its encoding.
