@@ -50,7 +50,7 @@ fn written(name: &str, operation: Operation, (a, b): (&IdSet<'_>, &IdSet<'_>), a
         report.check(&row.name, &format!("{name} without room"), refused, Err(SetError::Short));
     }
     let mut bytes = vec![0xA5];
-    report.check(&row.name, &format!("{name}, as a set"), combine_set(operation, a, b, &mut bytes), Ok(()));
+    report.check(&row.name, &format!("{name}, as a set"), combine_set(operation, a, b, &mut Vec::new(), &mut bytes), Ok(()));
     report.check(&row.name, &format!("{name}, bytes"), bytes[0] == 0xA5 && bytes[1..] == encoded(answer), true);
 }
 
@@ -124,7 +124,7 @@ pub fn counted_by_hand(report: &mut Report) {
     report.check("all ids", "or of two, counted", combine_count(Operation::Or, &sets[0], &sets[15]), 1 << 29);
     let (mut ids, mut set) = ([0; 100], vec![]);
     report.check("all ids", "or without room", combine_all_to(Operation::Or, &sets, &mut ids), Err(SetError::Short));
-    let refused = combine_set(Operation::Or, &sets[0], &sets[15], &mut set);
+    let refused = combine_set(Operation::Or, &sets[0], &sets[15], &mut Vec::new(), &mut set);
     report.check("all ids", "or of two, as a set", refused, Err(SetError::TooLong(1 << 29)));
 }
 

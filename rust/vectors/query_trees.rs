@@ -76,7 +76,7 @@ fn grown(sets: &[BTreeSet<u32>], operands: usize, chance: &mut Chance) -> (Vec<S
 
 /// All ids, in parts of this many.
 fn walked(sets: &[IdSet<'_>], steps: &[Step], answer: &[u32], room: usize, row: &Row, report: &mut Report) {
-    let mut query = Query::new(sets, steps).expect("a query");
+    let mut query = Query::new(sets, steps, Vec::new()).expect("a query");
     let (mut found, mut part) = (vec![], vec![7; room]);
     loop {
         let count = query.next_ids(&mut part);
@@ -92,7 +92,7 @@ fn walked(sets: &[IdSet<'_>], steps: &[Step], answer: &[u32], room: usize, row: 
 
 /// Parts, with some ids passed over between them.
 fn sought(sets: &[IdSet<'_>], steps: &[Step], answer: &[u32], chance: &mut Chance, row: &Row, report: &mut Report) {
-    let mut query = Query::new(sets, steps).expect("a query");
+    let mut query = Query::new(sets, steps, Vec::new()).expect("a query");
     let mut left = answer;
     for _ in 0..40 {
         let mut part = vec![7; [1, 7, 256, 3000][chance.below(4)]];
@@ -124,7 +124,7 @@ fn refused(sets: &[IdSet<'_>], row: &Row, report: &mut Report) {
         ("no such set", vec![set, Step::Set(5), and], QueryError::NoSet(1)),
         ("65 operands", deep.clone(), QueryError::TooDeep(64)),
     ] {
-        report.check(&row.name, name, Query::new(sets, &steps).err(), Some(error));
+        report.check(&row.name, name, Query::new(sets, &steps, Vec::new()).err(), Some(error));
     }
-    report.check(&row.name, "64 operands", Query::new(sets, &deep[1..128]).is_ok(), true);
+    report.check(&row.name, "64 operands", Query::new(sets, &deep[1..128], Vec::new()).is_ok(), true);
 }

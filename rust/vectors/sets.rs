@@ -90,13 +90,13 @@ fn appended_at_cuts(ids: &[u32], bytes: &[u8], row: &Row, report: &mut Report) {
     let right = [&[0xA5; MORE], bytes].concat();
     let refused = |set: &IdSet<'_>, more: &[u32], out: &mut Vec<u8>, position: usize| {
         let len = out.len();
-        append(set, more, out) == Err(SetError::NotSorted(position)) && out.len() == len
+        append(set, more, &mut Vec::new(), out) == Err(SetError::NotSorted(position)) && out.len() == len
     };
     let is_right = |cut: &usize| {
         let ((before, after), mut first, mut out) = (ids.split_at(*cut), vec![], vec![0xA5; MORE]);
         let set = encode(before, &mut first).and_then(|_| IdSet::open(&first)).unwrap();
         let twice = after.last().map(|last| [after, &[*last]].concat());
-        append(&set, after, &mut out) == Ok(())
+        append(&set, after, &mut Vec::new(), &mut out) == Ok(())
             && out == right
             && before.last().is_none_or(|last| refused(&set, &[*last], &mut out, before.len()))
             && twice.is_none_or(|more| refused(&set, &more, &mut out, ids.len()))
@@ -112,7 +112,7 @@ fn appended_far_apart(ids: &[u32], bytes: &[u8], row: &Row, report: &mut Report)
     let far = (1..=ids.len() as u64).map(|it| last + (it << 16));
     let more: Vec<u32> = far.map_while(|it| u32::try_from(it).ok()).collect();
     let (mut appended, mut right) = (vec![0xA5; MORE], vec![0xA5; MORE]);
-    let found = append(&IdSet::open(bytes).unwrap(), &more, &mut appended);
+    let found = append(&IdSet::open(bytes).unwrap(), &more, &mut Vec::new(), &mut appended);
     report.check(&row.name, "append of ids far apart", (found, encode(&[ids, &more].concat(), &mut right)), (Ok(()), Ok(())));
     report.check(&row.name, "bytes with ids far apart", appended == right, true);
 }

@@ -1,27 +1,30 @@
 -- The first chunks of a set in chunks, and ids that follow them.
-use Rattle.std.proofs.Common.{◌≡◌, ℕ, zero, suc, ◌+◌, ◌-◌, ◌*◌, ◌^◌, ◌<◌, ◌≤◌, List, [], ◌∷◌, ◌++◌, map, take, drop, length, refl, sym, ap, ◌∙◌, arith, subst, get_or, inl, inr, take-append-drop, length-drop, length-append, append_assoc}
-use Rattle.std.specs.List.{concat, flat_map, range_with_len}
-use Rattle.std.proofs.lemmas.Bool.{cases_lt}
-use Rattle.std.proofs.lemmas.List.{drop-append-le, drop_at, length-map, length-take-le, map-append, take_at}
+use Rattle.std.proofs.Common.{◌≡◌, ℕ, zero, suc, ◌+◌, ◌-◌, ◌*◌, ◌/◌, ◌^◌, ◌<◌, ◌≤◌, Bool, cond, eqb, eq-eqb, List, [], ◌∷◌, ◌++◌, map, take, drop, length, refl, sym, ap, ◌∙◌, arith, subst, get_or, inl, inr, take-append-drop, length-drop, length-append, append_assoc}
+use Rattle.std.specs.List.{concat, filter, flat_map, range_with_len}
+use Rattle.std.proofs.lemmas.Bool.{cases_lt, ne_eqb}
+use Rattle.std.proofs.lemmas.List.{drop-append-le, drop_at, get_or-append_right, length-map, length-take-le, map-append, take_at}
+use Rattle.std.proofs.lemmas.List.Elements.{filter-append}
 use Rattle.std.proofs.lemmas.List.FromFn.{length-map-range_with_len}
 use Rattle.bitpack_sets.proofs.BitmapLaws.{range_cat}
 use Rattle.bitpack_sets.proofs.ChunkLaws.{from_chunk, shorts_all}
 use Rattle.bitpack_sets.proofs.ChunkReads.{sum_all}
-use Rattle.bitpack_sets.proofs.DecodeLaws.{bytes_dropped}
+use Rattle.bitpack_sets.proofs.DecodeLaws.{bytes_dropped, rising_top}
 use Rattle.bitpack_sets.proofs.EncodeLaws.{few_is}
 use Rattle.bitpack_sets.proofs.EntryLaws.{body_len, ends_grow, grown_to, sums_grow}
+use Rattle.bitpack_sets.proofs.HalfLaws.{rising_at}
 use Rattle.bitpack_sets.proofs.JoinLaws.{join_rises, parts_join}
 use Rattle.bitpack_sets.proofs.LongLaws.{counts, join_len, keys, total}
 use Rattle.bitpack_sets.proofs.LongLaws as encodings
 use Rattle.bitpack_sets.proofs.PartLaws.{AreParts, join, join_parts, parts_are}
 use Rattle.bitpack_sets.proofs.ShortLaws.{Grows, map_map, map_same, before_next, step_of, steps_summed, steps_taken, steps_total}
+use Rattle.bitpack_sets.proofs.SliceLaws.{rising_room}
 use Rattle.bitpack_sets.proofs.WalkLaws.{rising_from}
 use Rattle.bitpack_sets.proofs.Words.{EachByte}
 use Rattle.bitpack_sets.specs.Directory.{before, bodies_end, bodies_start, body_at, body_numbers_of, chunk_at, chunk_ids, count_at, end_at, ids_of_chunks, key_at, sum_at}
 use Rattle.bitpack_sets.specs.Fronts.{IsFront, IsNext}
 use Rattle.bitpack_sets.specs.Sets.{IsRising, IsSet, body, encoding, le_bytes, parts, short, sums}
 use Rattle.bitpack_sets.specs.Sound.{IsRest}
-use Rattle.bitpack_sets.specs.Written.{bodies, keys_encoding}
+use Rattle.bitpack_sets.specs.Written.{bodies, keys_encoding, last_chunk}
 
 -- ---- parts of lists that follow each other
 
@@ -44,6 +47,37 @@ parts_cut first later cut =
     let all : join 65536 (ps ++ qs) ≡ first ++ later =
     join_append 65536 ps qs ∙ ap (λ (l : List ℕ). l ++ join 65536 qs) (join_parts 65536 first) ∙ ap (λ (l : List ℕ). first ++ l) (join_parts 65536 later) in
     ap (parts 65536) (sym all) ∙ parts_join 65536 0 65536 (ps ++ qs) (parts_append 65536 0 cut.key 65536 ps qs front back)
+
+-- ---- the ids of one chunk
+
+abbrev of_key : ℕ → ℕ → Bool
+of_key key x = eqb (x / 65536) key
+
+key_kept : (key low : ℕ) (xs : List ℕ) → key * 65536 ≤ low → IsRising low ((key + 1) * 65536) xs → filter (of_key key) xs ≡ xs
+key_kept key low [] h r = refl
+key_kept key low (x ∷ xs) h (a, r) =
+    let room = rising_room (x + 1) ((key + 1) * 65536) xs r in
+    ap (λ (b : Bool). cond b (x ∷ filter (of_key key) xs) (filter (of_key key) xs)) (eq-eqb (x / 65536) key (omega arith)) ∙ ap (λ (l : List ℕ). x ∷ l) (key_kept key (x + 1) xs (omega arith) r)
+
+key_left_out : (key low : ℕ) (xs : List ℕ) → IsRising low (key * 65536) xs → filter (of_key key) xs ≡ []
+key_left_out key low [] r = refl
+key_left_out key low (x ∷ xs) (a, r) =
+    let room = rising_room (x + 1) (key * 65536) xs r in
+    ap (λ (b : Bool). cond b (x ∷ filter (of_key key) xs) (filter (of_key key) xs)) (ne_eqb (x / 65536) key (λ e. omega arith)) ∙ key_left_out key (x + 1) xs r
+
+last_is : (first back : List ℕ) (key : ℕ) → 0 < length back → IsRising 0 (key * 65536) first → IsRising (key * 65536) ((key + 1) * 65536) back → last_chunk (first ++ back) ≡ back
+unfolding last_chunk
+last_is first back key some a b =
+    let end : ℕ = length back - 1 in
+    let long = length-append first back in
+    let at : get_or (first ++ back) (length (first ++ back) - 1) 0 ≡ get_or back end 0 =
+    get_or-append_right first back (length first) (length (first ++ back) - 1) 0 refl (omega arith)
+    ∙ ap (λ (n : ℕ). get_or back n 0) (omega arith) in
+    let low = rising_at (key * 65536) ((key + 1) * 65536) end back b (omega arith) in
+    let high = rising_top (key * 65536) ((key + 1) * 65536) end back b (omega arith) in
+    let same : get_or (first ++ back) (length (first ++ back) - 1) 0 / 65536 ≡ key = omega arith in
+    ap (λ (k : ℕ). filter (of_key k) (first ++ back)) same ∙ filter-append (of_key key) first back
+    ∙ ap (λ (l : List ℕ). l ++ filter (of_key key) back) (key_left_out key 0 first a) ∙ key_kept key (key * 65536) back (omega arith) b
 
 -- ---- the first chunks of a set
 
@@ -220,9 +254,24 @@ module _ (ids chunks : ℕ) (rest : List ℕ) (are : EachByte rest) (is : IsRest
       later low [] ys some r all = absurd (omega arith)
       later low (x ∷ xs) ys some (a, r) (from, (b, all)) = (a, all)
 
-  pub is_front : 128 ≤ length (chunk_ids chunks rest) → IsFront first (chunk_ids chunks rest)
-  is_front many = record {
+  one_back : k + 1 ≡ chunks → IsRising (key_at rest k * 65536) ((key_at rest k + 1) * 65536) (ids_of_chunks back)
+  one_back e =
+      let one : chunks - k ≡ suc zero = omega arith in
+      let some = (is.entries k lt).some in
+      let read = is.bodies k lt in
+      let many = read.count_is in
+      subst (λ (n : ℕ). IsRising (key_at rest k * 65536) ((key_at rest k + 1) * 65536) (ids_of_chunks (map (chunk_at chunks rest) (range_with_len k n)))) (sym one)
+      (join_rises 65536 (key_at rest k) (key_at rest k + 1) (map (chunk_at chunks rest) (range_with_len k (suc zero))) (omega arith, omega arith, read.rising, omega arith))
+
+  last_len : k + 1 ≡ chunks → length (chunk_ids chunks rest) ≡ length first + length (last_chunk (chunk_ids chunks rest))
+  last_len e =
+      let is_last : last_chunk (chunk_ids chunks rest) ≡ ids_of_chunks back = ap last_chunk all_is ∙ last_is first (ids_of_chunks back) (key_at rest k) back_some front_rises (one_back e) in
+      ap length all_is ∙ length-append first (ids_of_chunks back) ∙ ap (λ (l : List ℕ). length first + length l) (sym is_last)
+
+  pub is_front : 128 ≤ length (chunk_ids chunks rest) → k + 1 ≡ chunks → IsFront first (chunk_ids chunks rest)
+  is_front many end = record {
     many = many;
+    last = last_len end;
     front = ap (λ (n : ℕ). take n (chunk_ids chunks rest)) front_len ∙ front_is;
     next = λ more set. subst (λ (l : List ℕ). IsNext first (l ++ more)) (sym (ap (λ (n : ℕ). drop n (chunk_ids chunks rest)) front_len ∙ back_is)) (cut_is more set);
   }

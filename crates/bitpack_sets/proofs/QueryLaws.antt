@@ -1,14 +1,16 @@
 -- The steps of a query, and the operands that wait.
-use Rattle.std.proofs.Common.{◌≡◌, ℕ, zero, suc, ◌+◌, ◌-◌, ◌/◌, ◌%◌, ◌<◌, ◌≤◌, ◌≢◌, ◌⊎◌, inl, inr, eqb, leb, ltb, if◌then◌else◌, Bool, true, false, List, [], ◌∷◌, ◌++◌, length, get_or, map, max, set, take, drop, eq-eqb, refl, sym, ap, ◌∙◌, subst, arith, Option, None, Some, get_or-set_same}
-use Rattle.std.specs.List.{AllZip}
+use Rattle.std.proofs.Common.{◌≡◌, ℕ, zero, suc, ◌+◌, ◌-◌, ◌*◌, ◌/◌, ◌%◌, ◌<◌, ◌≤◌, ◌≢◌, ◌⊎◌, inl, inr, eqb, leb, ltb, if◌then◌else◌, ◌&&◌, ◌||◌, Bool, true, false, List, [], ◌∷◌, ◌++◌, length, get_or, map, max, set, take, drop, eq-eqb, refl, sym, ap, ◌∙◌, subst, arith, Option, None, Some, get_or-set_same}
+use Rattle.std.specs.List.{AllZip, list_any}
 use Rattle.std.proofs.lemmas.Bool.{eqb-true, false≢true, le-leb, leb-false, le-ltb, ltb-false, lt-leb, lt-ltb, ne_eqb}
+use Rattle.std.proofs.lemmas.Bool.Decides.{nat_tests}
 use Rattle.std.proofs.lemmas.List.{drop_all, get_or-drop, get_or-map, get_or-set_other, get_or-take, length-map, set-append_left, take_all}
 use Rattle.std.proofs.lemmas.List.Sums.{fold_more}
 use Rattle.std.proofs.lemmas.Option.{none-some}
 use Rattle.bitpack_sets.proofs.FoldLaws.{none_of_highs, set_ids}
 use Rattle.bitpack_sets.specs.Bitmaps.{has_bit}
 use Rattle.bitpack_sets.specs.Operations.{apply}
-use Rattle.bitpack_sets.specs.Queries.{evaluate, fault_from, in_set, is_found, most_waiting, waiting_after}
+use Rattle.bitpack_sets.specs.Chunks.{first_key}
+use Rattle.bitpack_sets.specs.Queries.{can_find, can_give, evaluate, fault_from, has_keys, is_found, most_waiting, passes, waiting_after}
 use Rattle.bitpack_sets.specs.Reads.{has}
 use Rattle.bitpack_sets.specs.declared.operation.Operation.{Operation}
 use Rattle.bitpack_sets.specs.declared.query_error.QueryError.{QueryError}
@@ -179,45 +181,50 @@ stored_set R z xs depth waiting v b h r stored =
     subst (λ (d : ℕ). Stored R z (set xs depth v) d (b ∷ waiting)) (sym more)
     (subst (λ ys. AllZip R ys (b ∷ waiting)) (sym (tower_set z xs depth v h)) (r, stored))
 
-stored_two : {A : Type 0} (R : A → Bool → Type 0) (z : A) (xs : List A) (low : ℕ) (waiting : List Bool) (member : ℕ → Bool) (operation : Operation) (v : A)
-    → ((a b : Bool) → R (get_or xs low z) a → R (get_or xs (suc low) z) b → R v (apply operation a b)) → Stored R z xs (suc (suc low)) waiting
-    → AllZip R (v ∷ tower z xs low) (waiting_after member waiting (Combine operation))
-stored_two R z xs low [] member operation v join stored = absurd stored
-stored_two R z xs low (b ∷ []) member operation v join stored = absurd stored.1
-stored_two R z xs low (b ∷ a ∷ waiting) member operation v join stored = (join a b stored.1.0 stored.0, stored.1.1)
+stored_two : {A : Type 0} (R : A → Bool → Type 0) (z : A) (xs : List A) (low : ℕ) (waiting : List Bool) (joined : Operation → Bool → Bool → Bool) (member : ℕ → Bool) (operation : Operation) (v : A)
+    → ((a b : Bool) → R (get_or xs low z) a → R (get_or xs (suc low) z) b → R v (joined operation a b)) → Stored R z xs (suc (suc low)) waiting
+    → AllZip R (v ∷ tower z xs low) (waiting_after joined member waiting (Combine operation))
+stored_two R z xs low [] joined member operation v join stored = absurd stored
+stored_two R z xs low (b ∷ []) joined member operation v join stored = absurd stored.1
+stored_two R z xs low (b ∷ a ∷ waiting) joined member operation v join stored = (join a b stored.1.0 stored.0, stored.1.1)
 
-pub stored_combined : {A : Type 0} (R : A → Bool → Type 0) (z : A) (xs : List A) (depth low high : ℕ) (waiting : List Bool) (member : ℕ → Bool) (operation : Operation) (v : A) → 2 ≤ depth → low + 2 ≡ depth → low + 1 ≡ high → low < length xs
-    → ((a b : Bool) → R (get_or xs low z) a → R (get_or xs high z) b → R v (apply operation a b)) → Stored R z xs depth waiting
-    → Stored R z (set xs low v) high (waiting_after member waiting (Combine operation))
-stored_combined R z xs depth low high waiting member operation v two d h l join stored =
+pub stored_combined : {A : Type 0} (R : A → Bool → Type 0) (z : A) (xs : List A) (depth low high : ℕ) (waiting : List Bool) (joined : Operation → Bool → Bool → Bool) (member : ℕ → Bool) (operation : Operation) (v : A) → 2 ≤ depth → low + 2 ≡ depth → low + 1 ≡ high → low < length xs
+    → ((a b : Bool) → R (get_or xs low z) a → R (get_or xs high z) b → R v (joined operation a b)) → Stored R z xs depth waiting
+    → Stored R z (set xs low v) high (waiting_after joined member waiting (Combine operation))
+stored_combined R z xs depth low high waiting joined member operation v two d h l join stored =
     let is : depth ≡ suc (suc low) = omega arith in
     let above : high ≡ suc low = omega arith in
-    let joined = stored_two R z xs low waiting member operation v (λ a b p q. join a b p (subst (λ (n : ℕ). R (get_or xs n z) b) (sym above) q)) (subst (λ (n : ℕ). Stored R z xs n waiting) is stored) in
-    subst (λ (n : ℕ). Stored R z (set xs low v) n (waiting_after member waiting (Combine operation))) (sym above)
-    (subst (λ ys. AllZip R ys (waiting_after member waiting (Combine operation))) (sym (tower_set z xs low v l)) joined)
+    let both = stored_two R z xs low waiting joined member operation v (λ a b p q. join a b p (subst (λ (n : ℕ). R (get_or xs n z) b) (sym above) q)) (subst (λ (n : ℕ). Stored R z xs n waiting) is stored) in
+    subst (λ (n : ℕ). Stored R z (set xs low v) n (waiting_after joined member waiting (Combine operation))) (sym above)
+    (subst (λ ys. AllZip R ys (waiting_after joined member waiting (Combine operation))) (sym (tower_set z xs low v l)) both)
 
 -- ---- the steps one by one
 
-one_more : (steps : List Step) (i : ℕ) (member : ℕ → Bool) (d s : Step) → i < length steps → get_or steps i d ≡ s → evaluate (take (i + 1) steps) member ≡ waiting_after member (evaluate (take i steps) member) s
-one_more steps i member d s l e = fold_more (waiting_after member) [] steps i d l ∙ ap (waiting_after member (evaluate (take i steps) member)) e
+one_more : (joined : Operation → Bool → Bool → Bool) (steps : List Step) (i : ℕ) (member : ℕ → Bool) (d s : Step) → i < length steps → get_or steps i d ≡ s → evaluate joined (take (i + 1) steps) member ≡ waiting_after joined member (evaluate joined (take i steps) member) s
+one_more joined steps i member d s l e = fold_more (waiting_after joined member) [] steps i d l ∙ ap (waiting_after joined member (evaluate joined (take i steps) member)) e
 
-pub in_set_at : (sets : List (List ℕ)) (x i : ℕ) (xs : List ℕ) → i < length sets → get_or sets i [] ≡ xs → in_set sets x i ≡ has x xs
-unfolding in_set
-in_set_at sets x i xs l e = get_or-map (has x) sets i [] false l ∙ ap (has x) e
+pub passes_at : (test : List ℕ → Bool) (sets : List (List ℕ)) (i : ℕ) (xs : List ℕ) → i < length sets → get_or sets i [] ≡ xs → passes test sets i ≡ test xs
+unfolding passes
+passes_at test sets i xs l e = get_or-map test sets i [] false l ∙ ap test e
 
 -- the steps are at their end: what is stored for the operand that is left is as the answer
 stored_one : {A : Type 0} (R : A → Bool → Type 0) (z : A) (xs : List A) (waiting : List Bool) → Stored R z xs (suc zero) waiting → R (get_or xs 0 z) (get_or waiting 0 false)
 stored_one R z xs [] stored = absurd stored
 stored_one R z xs (b ∷ waiting) stored = stored.0
 
-pub stored_found : {A B : Type 0} (f : B → Step) (R : A → Bool → Type 0) (z : A) (retained : List A) (most count depth i : ℕ) (sets : List (List ℕ)) (steps : List B) (x : ℕ) → length steps ≤ i → fault_from most count i depth (drop i (map f steps)) ≡ None
-    → Stored R z retained depth (evaluate (take i (map f steps)) (in_set sets x)) → R (get_or retained 0 z) (is_found sets (map f steps) x)
-unfolding is_found
-stored_found f R z retained most count depth i sets steps x l none stored =
+pub stored_last : {A B : Type 0} (f : B → Step) (R : A → Bool → Type 0) (z : A) (retained : List A) (most count depth i : ℕ) (joined : Operation → Bool → Bool → Bool) (member : ℕ → Bool) (steps : List B) → length steps ≤ i
+    → fault_from most count i depth (drop i (map f steps)) ≡ None
+    → Stored R z retained depth (evaluate joined (take i (map f steps)) member) → R (get_or retained 0 z) (get_or (evaluate joined (map f steps) member) 0 false)
+stored_last f R z retained most count depth i joined member steps l none stored =
     let one : depth ≡ suc zero = one_left f most count depth i steps l none in
     let all : take i (map f steps) ≡ map f steps = take_all i (map f steps) (omega (arith, length-map steps f)) in
-    stored_one R z retained (evaluate (map f steps) (in_set sets x))
-    (subst (λ (ss : List Step). Stored R z retained (suc zero) (evaluate ss (in_set sets x))) all (subst (λ (d : ℕ). Stored R z retained d (evaluate (take i (map f steps)) (in_set sets x))) one stored))
+    stored_one R z retained (evaluate joined (map f steps) member)
+    (subst (λ (ss : List Step). Stored R z retained (suc zero) (evaluate joined ss member)) all (subst (λ (d : ℕ). Stored R z retained d (evaluate joined (take i (map f steps)) member)) one stored))
+
+pub stored_found : {A B : Type 0} (f : B → Step) (R : A → Bool → Type 0) (z : A) (retained : List A) (most count depth i : ℕ) (sets : List (List ℕ)) (steps : List B) (x : ℕ) → length steps ≤ i → fault_from most count i depth (drop i (map f steps)) ≡ None
+    → Stored R z retained depth (evaluate apply (take i (map f steps)) (passes (has x) sets)) → R (get_or retained 0 z) (is_found sets (map f steps) x)
+unfolding is_found
+stored_found f R z retained most count depth i sets steps x l none stored = stored_last f R z retained most count depth i apply (passes (has x) sets) steps l none stored
 
 -- ---- what is stored for an operand
 
@@ -237,6 +244,44 @@ pub before_joined : (operation : Operation) (from x key k l : ℕ) (a b : Bool) 
     → Before from x k a → Before from x l b → Before from x key (apply operation a b)
 before_joined operation from x key k l a b (inl e) none p q = (omega (arith, p.0), (omega (arith, p.1.0), λ h. none (x / 65536) a b h p.1.1 q.1.1))
 before_joined operation from x key k l a b (inr e) none p q = (omega (arith, q.0), (omega (arith, q.1.0), λ h. none (x / 65536) a b h p.1.1 q.1.1))
+
+-- a key from which on the operand can have ids
+abbrev pub Reaches : ℕ → ℕ → Bool → Type 0
+Reaches to key b = key ≤ to → b ≡ true
+
+or_up : (p q a b : Bool) → (p ≡ true → q ≡ true) → (a ≡ true → b ≡ true) → (p || a) ≡ true → (q || b) ≡ true
+or_up true q a b f g e = ap (λ (c : Bool). c || b) (f refl)
+or_up false true a b f g e = refl
+or_up false false a b f g e = g e
+
+any_up : (p q : ℕ → Bool) (xs : List ℕ) → ((x : ℕ) → p x ≡ true → q x ≡ true) → list_any p xs ≡ true → list_any q xs ≡ true
+any_up p q [] f e = e
+any_up p q (x ∷ xs) f e = or_up (p x) (q x) (list_any p xs) (list_any q xs) (f x) (any_up p q xs f) e
+
+within : (key from to : ℕ) → from ≤ key → key ≤ to → (leb from key && leb key to) ≡ true
+within key from to a b = ap (λ (c : Bool). c && leb key to) (le-leb from key a) ∙ le-leb key to b
+
+wider : (key low high from to : ℕ) → from ≤ low → high ≤ to → (leb low key && leb key high) ≡ true → (leb from key && leb key to) ≡ true
+wider key low high from to a b e = grind (arith, nat_tests)
+
+-- ids of a key are also of keys that it is among
+pub has_more_keys : (low high from to : ℕ) (xs : List ℕ) → from ≤ low → high ≤ to → has_keys low high xs ≡ true → has_keys from to xs ≡ true
+has_more_keys low high from to xs a b e = any_up (λ x. leb low (x / 65536) && leb (x / 65536) high) (λ x. leb from (x / 65536) && leb (x / 65536) to) xs (λ x. wider (x / 65536) low high from to a b) e
+
+pub has_its_key : (x from to : ℕ) (xs : List ℕ) → from ≤ x / 65536 → x / 65536 ≤ to → has x xs ≡ true → has_keys from to xs ≡ true
+has_its_key x from to xs a b e =
+    any_up (λ y. eqb y x) (λ y. leb from (y / 65536) && leb (y / 65536) to) xs (λ y same. subst (λ (z : ℕ). (leb from (z / 65536) && leb (z / 65536) to) ≡ true) (sym (eqb-true y x same)) (within (x / 65536) from to a b)) e
+
+-- the first of some ids has their first key
+pub has_first_key : (low key : ℕ) (xs ids : List ℕ) → key ≡ first_key xs → low ≤ key → key < 65536 → ((x : ℕ) → low * 65536 ≤ x → has x ids ≡ has x xs) → has_keys key key ids ≡ true
+has_first_key low key [] ids e l h same = absurd (omega arith)
+has_first_key low key (x ∷ xs) ids e l h same =
+    let own : has x (x ∷ xs) ≡ true = ap (λ (c : Bool). c || has x xs) (eq-eqb x x refl) in
+    has_its_key x key key ids (omega arith) (omega arith) (same x (omega arith) ∙ own)
+
+pub reaches_joined : (operation : Operation) (to key k l : ℕ) (a b : Bool) → ((n : ℕ) (p q : Bool) → key ≤ n → (k ≤ n → p ≡ true) → (l ≤ n → q ≡ true) → can_give operation p q ≡ true)
+    → Reaches to k a → Reaches to l b → Reaches to key (can_give operation a b)
+reaches_joined operation to key k l a b some p q h = some to a b h p q
 
 pub covers_joined : (operation : Operation) (x : ℕ) (highs ones others : List ℕ) (a b : Bool)
     → ((h : ℕ) → h < 256 → has_bit highs h ≡ false → apply operation (has_bit ones h) (has_bit others h) ≡ false)
@@ -262,19 +307,21 @@ bit_joined operation x xs front back low high words a b f g l own p q =
     ∙ ap (λ (ws : List ℕ). apply operation (has_bit (get_or xs low []) (x % 65536)) (has_bit ws (x % 65536))) second
     ∙ ap (λ (c : Bool). apply operation c (has_bit (get_or xs high []) (x % 65536))) p ∙ ap (apply operation a) q
 
-pub stored_after_set : {A B C : Type 0} (f : B → Step) (h : C → List ℕ) (R : A → Bool → Type 0) (z : A) (retained : List A) (depth i k : ℕ) (sets : List C) (steps : List B) (b : B) (r : Step) (s : C) (xs : List ℕ) (x : ℕ) (v : A)
-    → i < length steps → b ≡ get_or steps i b → r ≡ f b → r ≡ Set k → k < length sets → s ≡ get_or sets k s → xs ≡ h s → depth < length retained → R v (has x xs)
-    → Stored R z retained depth (evaluate (take i (map f steps)) (in_set (map h sets) x)) → Stored R z (set retained depth v) (depth + 1) (evaluate (take (i + 1) (map f steps)) (in_set (map h sets) x))
-stored_after_set f h R z retained depth i k sets steps b r s xs x v l at is e within set_is own room apply stored =
-    let member = in_set (map h sets) x in
-    let in_it : member k ≡ has x xs = in_set_at (map h sets) x k xs (omega (arith, length-map sets h)) (set_ids h sets k s within set_is ∙ sym own) in
-    subst (λ bs. Stored R z (set retained depth v) (depth + 1) bs) (sym (one_more (map f steps) i member (Set k) (Set k) (step_within f steps i l) (step_is f steps i b r (Set k) l at is e)))
-    (stored_set R z retained depth (evaluate (take i (map f steps)) member) v (member k) room (subst (R v) (sym in_it) apply) stored)
+pub stored_after_set : {A B C : Type 0} (f : B → Step) (h : C → List ℕ) (R : A → Bool → Type 0) (z : A) (retained : List A) (depth i k : ℕ) (sets : List C) (steps : List B) (b : B) (r : Step) (s : C) (xs : List ℕ)
+    (joined : Operation → Bool → Bool → Bool) (test : List ℕ → Bool) (v : A)
+    → i < length steps → b ≡ get_or steps i b → r ≡ f b → r ≡ Set k → k < length sets → s ≡ get_or sets k s → xs ≡ h s → depth < length retained → R v (test xs)
+    → Stored R z retained depth (evaluate joined (take i (map f steps)) (passes test (map h sets)))
+    → Stored R z (set retained depth v) (depth + 1) (evaluate joined (take (i + 1) (map f steps)) (passes test (map h sets)))
+stored_after_set f h R z retained depth i k sets steps b r s xs joined test v l at is e within set_is own room fact stored =
+    let member = passes test (map h sets) in
+    let in_it : member k ≡ test xs = passes_at test (map h sets) k xs (omega (arith, length-map sets h)) (set_ids h sets k s within set_is ∙ sym own) in
+    subst (λ bs. Stored R z (set retained depth v) (depth + 1) bs) (sym (one_more joined (map f steps) i member (Set k) (Set k) (step_within f steps i l) (step_is f steps i b r (Set k) l at is e)))
+    (stored_set R z retained depth (evaluate joined (take i (map f steps)) member) v (member k) room (subst (R v) (sym in_it) fact) stored)
 
-pub stored_after_combine : {A B : Type 0} (f : B → Step) (R : A → Bool → Type 0) (z : A) (retained : List A) (depth low high i : ℕ) (sets : List (List ℕ)) (steps : List B) (b : B) (r : Step) (operation : Operation) (x : ℕ) (v : A)
-    → i < length steps → b ≡ get_or steps i b → r ≡ f b → r ≡ Combine operation → 2 ≤ depth → low + 2 ≡ depth → low + 1 ≡ high → low < length retained → ((a b : Bool) → R (get_or retained low z) a → R (get_or retained high z) b → R v (apply operation a b))
-    → Stored R z retained depth (evaluate (take i (map f steps)) (in_set sets x)) → Stored R z (set retained low v) high (evaluate (take (i + 1) (map f steps)) (in_set sets x))
-stored_after_combine f R z retained depth low high i sets steps b r operation x v l at is e two under over room join stored =
-    let member = in_set sets x in
-    subst (λ bs. Stored R z (set retained low v) high bs) (sym (one_more (map f steps) i member (Combine operation) (Combine operation) (step_within f steps i l) (step_is f steps i b r (Combine operation) l at is e)))
-    (stored_combined R z retained depth low high (evaluate (take i (map f steps)) member) member operation v two under over room join stored)
+pub stored_after_combine : {A B : Type 0} (f : B → Step) (R : A → Bool → Type 0) (z : A) (retained : List A) (depth low high i : ℕ) (steps : List B) (b : B) (r : Step) (operation : Operation)
+    (joined : Operation → Bool → Bool → Bool) (member : ℕ → Bool) (v : A)
+    → i < length steps → b ≡ get_or steps i b → r ≡ f b → r ≡ Combine operation → 2 ≤ depth → low + 2 ≡ depth → low + 1 ≡ high → low < length retained → ((a b : Bool) → R (get_or retained low z) a → R (get_or retained high z) b → R v (joined operation a b))
+    → Stored R z retained depth (evaluate joined (take i (map f steps)) member) → Stored R z (set retained low v) high (evaluate joined (take (i + 1) (map f steps)) member)
+stored_after_combine f R z retained depth low high i steps b r operation joined member v l at is e two under over room join stored =
+    subst (λ bs. Stored R z (set retained low v) high bs) (sym (one_more joined (map f steps) i member (Combine operation) (Combine operation) (step_within f steps i l) (step_is f steps i b r (Combine operation) l at is e)))
+    (stored_combined R z retained depth low high (evaluate joined (take i (map f steps)) member) joined member operation v two under over room join stored)

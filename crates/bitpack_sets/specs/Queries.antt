@@ -1,9 +1,10 @@
 -- Queries: trees of operations on sets, in postfix order.
-use Rattle.std.specs.Prelude.{◌≡◌, ℕ, ◌+◌, ◌-◌, ◌/◌, ◌%◌, ◌^◌, ◌<◌, ◌&&◌, ◌==◌, nat_lt, nat_le, if◌then◌else◌, Bool, false, List, [], ◌∷◌, get_or, map, max, slice_index_or, Option, Some, None, Result, Ok, Err}
-use Rattle.std.specs.List.{filter, fold}
+use Rattle.std.specs.Prelude.{◌≡◌, ℕ, ◌+◌, ◌-◌, ◌/◌, ◌%◌, ◌^◌, ◌<◌, ◌&&◌, ◌||◌, ◌==◌, nat_lt, nat_le, if◌then◌else◌, Bool, false, List, [], ◌∷◌, get_or, map, max, slice_index_or, Option, Some, None, Result, Ok, Err}
+use Rattle.std.specs.List.{filter, fold, list_any}
 use Rattle.bitpack_sets.specs.Bitmaps.{has_bit}
 use Rattle.bitpack_sets.specs.Operations.{apply, those}
 use Rattle.bitpack_sets.specs.Reads.{has}
+use Rattle.bitpack_sets.specs.declared.operation.Operation.{Operation}
 use Rattle.bitpack_sets.specs.declared.query_error.QueryError.{QueryError}
 use Rattle.bitpack_sets.specs.declared.query_error.QueryError.TheVariants.{Empty, LeftOver, MissingOperand, NoSet, Short, TooDeep}
 use Rattle.bitpack_sets.specs.declared.step.Step.{Step}
@@ -40,25 +41,25 @@ or_short bitmaps most None = if nat_lt bitmaps most then Some (Short most) else 
 abbrev pub query_fault : ℕ → ℕ → List Step → Option QueryError
 query_fault bitmaps sets steps = or_short bitmaps (most_waiting 0 steps) (fault_from 64 sets 0 0 steps)
 
--- the operands that wait after a step, the last first: each says whether it has an id. `member` says whether a set has it.
-abbrev pub waiting_after : (ℕ → Bool) → List Bool → Step → List Bool
-waiting_after member waiting (Set i) = member i ∷ waiting
-waiting_after member [] (Combine operation) = []
-waiting_after member (b ∷ []) (Combine operation) = []
-waiting_after member (b ∷ a ∷ waiting) (Combine operation) = apply operation a b ∷ waiting
+-- the operands that wait after a step, the last first: each says whether it has an id, or whether it can have one. `joined` says it of an
+-- operation on two operands, `member` of a set.
+abbrev pub waiting_after : (Operation → Bool → Bool → Bool) → (ℕ → Bool) → List Bool → Step → List Bool
+waiting_after joined member waiting (Set i) = member i ∷ waiting
+waiting_after joined member (b ∷ a ∷ waiting) (Combine operation) = joined operation a b ∷ waiting
+waiting_after joined member waiting (Combine operation) = []
 
-abbrev pub evaluate : List Step → (ℕ → Bool) → List Bool
-evaluate steps member = fold (waiting_after member) [] steps
+abbrev pub evaluate : (Operation → Bool → Bool → Bool) → List Step → (ℕ → Bool) → List Bool
+evaluate joined steps member = fold (waiting_after joined member) [] steps
 
 -- ---- the answer
 
--- set i has this id
-unfoldable pub in_set : List (List ℕ) → ℕ → ℕ → Bool
-in_set sets x i = get_or (map (has x) sets) i false
+-- set i passes a test
+unfoldable pub passes : (List ℕ → Bool) → List (List ℕ) → ℕ → Bool
+passes test sets i = get_or (map test sets) i false
 
 -- an id is in the answer: the steps leave true
 unfoldable pub is_found : List (List ℕ) → List Step → ℕ → Bool
-is_found sets steps x = get_or (evaluate steps (in_set sets x)) 0 false
+is_found sets steps x = get_or (evaluate apply steps (passes (has x) sets)) 0 false
 
 -- the ids of the answer
 abbrev pub answer_of : List (List ℕ) → List Step → List ℕ
@@ -72,3 +73,17 @@ ids_from least xs = filter (nat_le least) xs
 abbrev pub IsLoaded : (ℕ → Bool) → ℕ → List ℕ → List (List ℕ) → Type 0
 IsLoaded found key highs bitmaps =
     (x : ℕ) → x < 2 ^ 32 → x / 65536 ≡ key → found x ≡ (has_bit highs (x % 65536 / 256) && has_bit (slice_index_or bitmaps 0 []) (x % 65536))
+
+-- ---- the keys of the answer
+
+-- one of the ids has a key from one to another
+abbrev pub has_keys : ℕ → ℕ → List ℕ → Bool
+has_keys from to xs = list_any (λ x. nat_le from (x / 65536) && nat_le (x / 65536) to) xs
+
+-- an operation on two operands can give ids, by whether each has some
+abbrev pub can_give : Operation → Bool → Bool → Bool
+can_give operation a b = apply operation a b || apply operation a false || apply operation false b
+
+-- the answer can have ids, by which sets have ids of these keys
+unfoldable pub can_find : List (List ℕ) → List Step → ℕ → ℕ → Bool
+can_find sets steps from to = get_or (evaluate can_give steps (passes (has_keys from to) sets)) 0 false

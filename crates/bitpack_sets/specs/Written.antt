@@ -1,6 +1,6 @@
 -- What a writer of sets refuses, what it measures, and what it leaves.
-use Rattle.std.specs.Prelude.{◌≡◌, ◌≢◌, ℕ, ◌+◌, ◌-◌, ◌*◌, ◌/◌, ◌%◌, ◌^◌, ◌<◌, ◌≤◌, ◌++◌, min, nat_lt, if◌then◌else◌, List, [], ◌∷◌, drop, length, map, slice_index, Option, Some, None, Result, Err, IfErr, IfOk, IsOk, MatchOption, OnErr, OnOk, vec_len, vec_capacity}
-use Rattle.std.specs.List.{concat, flat_map}
+use Rattle.std.specs.Prelude.{◌≡◌, ◌≢◌, ℕ, ◌+◌, ◌-◌, ◌*◌, ◌/◌, ◌%◌, ◌^◌, ◌<◌, ◌≤◌, ◌&&◌, ◌==◌, ◌++◌, Bool, min, nat_lt, if◌then◌else◌, List, [], ◌∷◌, drop, length, map, slice_index, Option, Some, None, Result, Err, IfErr, IfOk, IsOk, MatchOption, OnErr, OnOk, vec_len, vec_capacity}
+use Rattle.std.specs.List.{concat, filter, flat_map}
 use Rattle.std.specs.Option.{option_map}
 use Rattle.std.specs.declared.vec.Vec.{Vec}
 use Rattle.bitpack_sets.specs.declared.set_error.SetError.{SetError}
@@ -93,37 +93,46 @@ pub record MeasuresSet (ids : List ℕ) (result : Result ℕ SetError) : Type 0 
   pub len : IfOk result (λ len. len ≡ length (encoding ids))
   pub fault : MatchOption (refusal ids) (IsOk result) (λ fault. result ≡ Err fault)
 
--- the encoding of a set is written, and what is after it is unchanged; or the ids are none, or the slice is too short, and nothing changed
-pub record WritesSet (ids : List ℕ) (result : Result ℕ SetError) (old new : List ℕ) : Type 0 where
+-- the encoding of a set is written, and what is after it is unchanged; or the ids are none, or the slice is too short, or work space for
+-- `space` ids if more are `needed`, and nothing changed
+pub record WritesWith (space needed : ℕ) (ids : List ℕ) (result : Result ℕ SetError) (old new : List ℕ) : Type 0 where
   pub set : OnOk result (IsSet ids)
   pub len : IfOk result (λ len. len ≡ length (encoding ids))
   pub ok : OnOk result (new ≡ encoding ids ++ drop (length (encoding ids)) old)
   pub fault : MatchOption (refusal ids) (IfErr result (λ e. e ≡ Short)) (λ fault. result ≡ Err fault)
-  pub room : refusal ids ≡ None → OnErr result (length old < length (encoding ids))
+  pub room : refusal ids ≡ None → needed ≤ space → OnErr result (length old < length (encoding ids))
   pub unchanged : OnErr result (new ≡ old)
 
--- WritesSet with work space for `space` ids: it is enough if all ids fit in it
-pub record WritesWith (space : ℕ) (ids : List ℕ) (result : Result ℕ SetError) (old new : List ℕ) : Type 0 where
-  pub set : OnOk result (IsSet ids)
-  pub len : IfOk result (λ len. len ≡ length (encoding ids))
-  pub ok : OnOk result (new ≡ encoding ids ++ drop (length (encoding ids)) old)
-  pub fault : MatchOption (refusal ids) (IfErr result (λ e. e ≡ Short)) (λ fault. result ≡ Err fault)
-  pub room : refusal ids ≡ None → length ids ≤ space → OnErr result (length old < length (encoding ids))
-  pub unchanged : OnErr result (new ≡ old)
+abbrev pub WritesSet : List ℕ → Result ℕ SetError → List ℕ → List ℕ → Type 0
+WritesSet ids result old new = WritesWith 0 0 ids result old new
 
--- the encoding of a set is appended; or the ids are none, or the vector has no room and memory runs out, and nothing changed
-pub record AppendsSet {A : Type 0} (ids : List ℕ) (result : Result (Unit {0}) SetError) (old new : Vec ℕ A) : Type 0 where
+-- the encoding of a set is appended; or the ids are none, or memory runs out if the vector has no room, or work space has room for fewer ids than
+-- are `needed`, and nothing changed
+pub record AppendsWith {A : Type 0} (space needed : ℕ) (ids : List ℕ) (result : Result (Unit {0}) SetError) (old new : Vec ℕ A) : Type 0 where
   pub set : OnOk result (IsSet ids)
   pub ok : OnOk result (new.items ≡ old.items ++ encoding ids)
   pub fault : MatchOption (refusal ids) (IfErr result (λ e. e ≡ Memory)) (λ fault. result ≡ Err fault)
-  pub room : refusal ids ≡ None → OnErr result (vec_capacity old < vec_len old + length (encoding ids))
+  pub room : refusal ids ≡ None → needed ≤ space → OnErr result (vec_capacity old < vec_len old + length (encoding ids))
   pub unchanged : OnErr result (new.items ≡ old.items)
   pub capacity : OnErr result (vec_capacity new ≡ vec_capacity old)
+
+-- the ids of the last chunk
+unfoldable pub last_chunk : List ℕ → List ℕ
+last_chunk ids = filter (λ x. x / 65536 == slice_index ids (length ids - 1) / 65536) ids
+
+-- the set is in chunks
+abbrev pub is_in_chunks : List ℕ → Bool
+is_in_chunks ids = slice_index (encoding ids) 0 == 5
+
+-- how many ids an append needs work space for: those that follow, and of the set all, or those in its last chunk if it is in chunks and stays so
+abbrev pub unpacked : List ℕ → List ℕ → ℕ
+unpacked ids more = length (if is_in_chunks ids && is_in_chunks (ids ++ more) then last_chunk ids else ids) + length more
 
 -- bytes are appended; or memory runs out, and nothing changed
 pub record Appends {A : Type 0} (bytes : List ℕ) (result : Result (Unit {0}) SetError) (old new : Vec ℕ A) : Type 0 where
   pub ok : OnOk result (new.items ≡ old.items ++ bytes)
   pub memory : IfErr result (λ e. e ≡ Memory)
+  pub room : OnErr result (vec_capacity old < vec_len old + length bytes)
   pub unchanged : OnErr result (new.items ≡ old.items)
   pub capacity : OnErr result (vec_capacity new ≡ vec_capacity old)
 

@@ -6,7 +6,7 @@ ghost use Rattle.bitpack_sets.specs.Errors.{Finds};
 ghost use Rattle.bitpack_sets.specs.Fronts.{IsFront, IsNext, front_ids};
 ghost use Rattle.bitpack_sets.specs.Opened.{ids};
 ghost use Rattle.bitpack_sets.specs.Sets.{IsSet, encoding, in_chunks, parts};
-ghost use Rattle.bitpack_sets.specs.Written.{Appends, WritesBytes, WritesWith, bodies, refusal};
+ghost use Rattle.bitpack_sets.specs.Written.{Appends, AppendsWith, WritesBytes, WritesWith, bodies, refusal, unpacked};
 
 use crate::encoding::chunks::chunks_len;
 use crate::encoding::copying::Front;
@@ -15,38 +15,41 @@ use crate::encoding::{append_set, append_zeros, encode_to};
 use crate::id_set::IdSet;
 use crate::reserved;
 use crate::set_error::SetError;
-use std::alloc::Global;
 
-/// Appends the set of the ids of a set and of more ids after them.
+/// Appends the set of the ids of a set and of more ids after them. It unpacks ids into `room`, whose items are lost. If both sets are in chunks,
+/// only the ids of the last chunk are unpacked, and the other bodies are copied.
 ///
 /// All these ids have to increase, and are at most 268,435,456. Fails with `TooLong`, then with `NotSorted` and the position in the whole set
-/// of the first id that is not above the one before it, or with `Memory`. If both sets are in chunks, all bodies but the last are copied.
-/// It allocates for the ids that are not, and the vector grows at most once.
-pub fn append(alloc: Global, set: &IdSet, more: &[u32], out: &mut Vec<u8>) -> Result<(), SetError>
-    ensures set { OnOk result (IsSet (ids set.now ++ more.now)) }
-    ensures ok { OnOk result (out.new.items ≡ out.old.items ++ encoding (ids set.now ++ more.now)) }
-    ensures fault { MatchOption (refusal (ids set.now ++ more.now)) (IfErr result (λ e. e ≡ SetError.Memory))
-        (λ fault. result ≡ Err fault) }
-    ensures unchanged { OnErr result (out.new.items ≡ out.old.items) }
-    ensures capacity { OnErr result (vec_capacity out.new ≡ vec_capacity out.old) }
+/// of the first id that is not above the one before it, or with `Memory` if a vector cannot grow. `out` grows at most once. `room` does not grow
+/// if it has room for the ids that are unpacked and for `more`.
+pub fn append(
+    set: &IdSet,
+    more: &[u32],
+    room: &mut Vec<u32>,
+    out: &mut Vec<u8>,
+) -> Result<(), SetError>
+    ensures { AppendsWith (vec_capacity room.old) (unpacked (ids set.now) more.now) (ids set.now ++ more.now) result out.old out.new }
 {
     test_after(set, more)?;
-    let mut room = Vec::new(alloc);
-    append_ids(set, more, &mut room, out)
+    room.clear();
+    match set.front() {
+        Some(front) => append_after(&front, set, more, room, out),
+        None => append_unpacked(set, more, room, out),
+    }
 }
 
 /// Writes the set of the ids of a set and of more ids after them at the start of the slice, and returns its length in bytes. Allocates nothing:
-/// it unpacks ids into the room. If both sets are in chunks, only the ids of the last chunk are unpacked, and the other bodies are copied.
+/// it unpacks ids into `room`. If both sets are in chunks, only the ids of the last chunk are unpacked, and the other bodies are copied.
 ///
-/// Fails as [`append`] does, with `Short` if there is no room for the bytes, or for the ids. Room for all ids is always enough. If it fails,
-/// the slice is unchanged. The bytes after the set are unchanged.
+/// Fails as [`append`] does, with `Short` if there is no room for the bytes, or for the ids that are unpacked and `more`. Room for all ids is always
+/// enough. If it fails, the slice is unchanged. The bytes after the set are unchanged.
 pub fn append_to(
     set: &IdSet,
     more: &[u32],
     room: &mut [u32],
     out: &mut [u8],
 ) -> Result<usize, SetError>
-    ensures { WritesWith (length room.old) (ids set.now ++ more.now) result out.old out.new }
+    ensures { WritesWith (length room.old) (unpacked (ids set.now) more.now) (ids set.now ++ more.now) result out.old out.new }
 {
     test_after(set, more)?;
     match set.front() {
@@ -63,23 +66,6 @@ fn test_after(set: &IdSet, more: &[u32]) -> Result<(), SetError>
     test_more(set.len(), set.last(), more)
 }
 
-/// Appends the set of these ids. It unpacks into the room.
-fn append_ids(
-    set: &IdSet,
-    more: &[u32],
-    room: &mut Vec<u32>,
-    out: &mut Vec<u8>,
-) -> Result<(), SetError>
-    requires set { IsSet (ids set.now ++ more.now) }
-    requires room { room.old.items ≡ [] }
-    ensures { Appends (encoding (ids set.now ++ more.now)) result out.old out.new }
-{
-    match set.front() {
-        Some(front) => append_after(&front, set, more, room, out),
-        None => append_unpacked(set, more, room, out),
-    }
-}
-
 /// Appends the set of all ids. If it is in chunks, the bodies of the first ones are copied.
 fn append_after(
     front: &Front,
@@ -91,7 +77,7 @@ fn append_after(
     requires set { IsSet (ids set.now ++ more.now) }
     requires front { IsFront (front_ids front.now) (ids set.now) }
     requires room { room.old.items ≡ [] }
-    ensures { Appends (encoding (ids set.now ++ more.now)) result out.old out.new }
+    ensures { AppendsWith (vec_capacity room.old) (unpacked (ids set.now) more.now) (ids set.now ++ more.now) result out.old out.new }
 {
     unpack_with(set, front.len(), more, room)?;
     let (chunks, size) = front.measure(room.as_slice());
@@ -111,7 +97,7 @@ fn append_unpacked(
 ) -> Result<(), SetError>
     requires set { IsSet (ids set.now ++ more.now) }
     requires room { room.old.items ≡ [] }
-    ensures { Appends (encoding (ids set.now ++ more.now)) result out.old out.new }
+    ensures { AppendsWith (vec_capacity room.old) (length (ids set.now ++ more.now)) (ids set.now ++ more.now) result out.old out.new }
 {
     unpack_with(set, 0, more, room)?;
     append_set(room.as_slice(), out)
@@ -150,6 +136,8 @@ fn unpack_with(set: &IdSet, from: usize, more: &[u32], out: &mut Vec<u32>) -> Re
     requires few { length (ids set.now) + length more.now ≤ 2 ^ 28 }
     ensures ok { OnOk result (out.new.items ≡ out.old.items ++ (drop from (ids set.now) ++ more.now)) }
     ensures memory { IfErr result (λ e. e ≡ SetError.Memory) }
+    ensures room { OnErr result (vec_capacity out.old < vec_len out.old + (length (ids set.now) - from + length more.now)) }
+    ensures grown { vec_capacity out.old ≤ vec_capacity out.new }
 {
     let count = set.len() - from;
     if out.reserve(count + more.len()).is_err() {
@@ -166,7 +154,8 @@ fn unpack_with(set: &IdSet, from: usize, more: &[u32], out: &mut Vec<u32>) -> Re
 fn append_range(set: &IdSet, from: usize, count: usize, out: &mut Vec<u32>)
     requires count { from + count ≡ length (ids set.now) }
     requires room { vec_len out.old + count ≤ vec_capacity out.old }
-    ensures { out.new.items ≡ out.old.items ++ drop from (ids set.now) }
+    ensures ids { out.new.items ≡ out.old.items ++ drop from (ids set.now) }
+    ensures capacity { vec_capacity out.old ≤ vec_capacity out.new }
 {
     let start = out.len();
     reserved::append_zeros(out, count);
@@ -183,7 +172,7 @@ fn write_after(
 ) -> Result<usize, SetError>
     requires set { IsSet (ids set.now ++ more.now) }
     requires front { IsFront (front_ids front.now) (ids set.now) }
-    ensures { WritesWith (length room.old) (ids set.now ++ more.now) result out.old out.new }
+    ensures { WritesWith (length room.old) (unpacked (ids set.now) more.now) (ids set.now ++ more.now) result out.old out.new }
 {
     let count = unpack_to(set, front.len(), more, room)?;
     let (chunks, size) = front.measure(&room[..count]);
@@ -201,7 +190,7 @@ fn write_unpacked(
     out: &mut [u8],
 ) -> Result<usize, SetError>
     requires set { IsSet (ids set.now ++ more.now) }
-    ensures { WritesWith (length room.old) (ids set.now ++ more.now) result out.old out.new }
+    ensures { WritesWith (length room.old) (length (ids set.now ++ more.now)) (ids set.now ++ more.now) result out.old out.new }
 {
     let count = unpack_to(set, 0, more, room)?;
     encode_to(&room[..count], out)
@@ -239,7 +228,8 @@ fn unpack_to(set: &IdSet, from: usize, more: &[u32], room: &mut [u32]) -> Result
     ensures within { IfOk result (λ count. count ≤ length room.new) }
     ensures ok { IfOk result (λ count. take count room.new ≡ drop from (ids set.now) ++ more.now) }
     ensures short { IfErr result (λ e. e ≡ SetError.Short) }
-    ensures room { OnErr result (length room.old < length (ids set.now) + length more.now) }
+    ensures len { length room.new ≡ length room.old }
+    ensures room { OnErr result (length room.old < length (ids set.now) - from + length more.now) }
 {
     let count = set.len() - from;
     let end = count + more.len();

@@ -1,43 +1,36 @@
 //! Combines two sets into one.
 
-ghost use Rattle.std.specs.Prelude.{◌≡◌, ◌+◌, ◌<◌, ◌++◌, [], Err, IfErr, MatchOption, OnErr, OnOk, vec_capacity, vec_len};
+ghost use Rattle.std.specs.Prelude.{length, vec_capacity};
 ghost use Rattle.bitpack_sets.specs.Opened.{ids};
 ghost use Rattle.bitpack_sets.specs.Operations.{answer};
-ghost use Rattle.bitpack_sets.specs.Sets.{IsSet, encoding};
-ghost use Rattle.bitpack_sets.specs.Written.{refusal};
+ghost use Rattle.bitpack_sets.specs.Written.{AppendsWith};
 
 use crate::combining::{append_combined, combine_count};
-use crate::encoding::encode;
+use crate::encoding::append_set;
 use crate::encoding::order::LONGEST_SET;
 use crate::id_set::IdSet;
 use crate::operation::Operation;
 use crate::set_error::SetError;
-use std::alloc::Global;
 
-/// Appends the encoding of the set that an operation on two sets gives.
+/// Appends the encoding of the set that an operation on two sets gives. It writes the ids of the answer into `room`, whose items are lost.
 ///
-/// The answer has at most 268,435,456 ids: with more it fails with `TooLong`, and only counts them. It fails with `Memory` if the vector
-/// cannot grow, or if there is no memory for the ids of the answer, 4 bytes for each, which it needs until they are encoded.
+/// The answer has at most 268,435,456 ids: with more it fails with `TooLong`, and only counts them. It fails with `Memory` if a vector cannot
+/// grow. `room` does not grow if it has room for the ids.
 pub fn combine_set(
-    alloc: Global,
     operation: Operation,
     a: &IdSet,
     b: &IdSet,
+    room: &mut Vec<u32>,
     out: &mut Vec<u8>,
 ) -> Result<(), SetError>
-    ensures set { OnOk result (IsSet (answer operation (ids a.now) (ids b.now))) }
-    ensures ok { OnOk result (out.new.items ≡ out.old.items ++ encoding (answer operation (ids a.now) (ids b.now))) }
-    ensures fault { MatchOption (refusal (answer operation (ids a.now) (ids b.now))) (IfErr result (λ e. e ≡ SetError.Memory)) (λ fault. result ≡ Err fault) }
-    // For an answer of no ids only the vector needs memory.
-    ensures room { answer operation (ids a.now) (ids b.now) ≡ [] → OnErr result (vec_capacity out.old < vec_len out.old + 1) }
-    ensures unchanged { OnErr result (out.new.items ≡ out.old.items) }
-    ensures capacity { OnErr result (vec_capacity out.new ≡ vec_capacity out.old) }
+    ensures { AppendsWith (vec_capacity room.old) (length (answer operation (ids a.now) (ids b.now))) (answer operation (ids a.now) (ids b.now))
+        result out.old out.new }
 {
     let count = combine_count(operation, a, b);
     if count > LONGEST_SET {
         return Err(SetError::TooLong(count));
     }
-    let mut answer = Vec::new(alloc);
-    append_combined(operation, a, b, count, &mut answer)?;
-    encode(&answer, out)
+    room.clear();
+    append_combined(operation, a, b, count, room)?;
+    append_set(room.as_slice(), out)
 }

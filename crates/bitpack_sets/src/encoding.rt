@@ -1,8 +1,8 @@
 //! From ids to bytes: the encoding of a set is measured, and then written.
 
-ghost use Rattle.std.specs.Prelude.{◌≡◌, ◌+◌, ◌<◌, ◌≤◌, ◌++◌, IfErr, OnErr, OnOk, length, replicate, vec_len, vec_capacity};
+ghost use Rattle.std.specs.Prelude.{◌≡◌, ◌+◌, ◌≤◌, ◌++◌, length, replicate, vec_len, vec_capacity};
 ghost use Rattle.bitpack_sets.specs.Sets.{IsSet, encoding};
-ghost use Rattle.bitpack_sets.specs.Written.{AppendsSet, IsMeasured, MeasuresSet, WritesSet};
+ghost use Rattle.bitpack_sets.specs.Written.{Appends, AppendsWith, IsMeasured, MeasuresSet, WritesSet};
 
 mod bodies;
 pub(crate) mod chunks;
@@ -56,7 +56,7 @@ pub fn encode_to(ids: &[u32], bytes: &mut [u8]) -> Result<usize, SetError>
 
 /// Appends the set of these ids. They have to increase, and are at most 268,435,456. The vector grows at most once.
 pub fn encode(ids: &[u32], out: &mut Vec<u8>) -> Result<(), SetError>
-    ensures { AppendsSet ids.now result out.old out.new }
+    ensures { AppendsWith 0 0 ids.now result out.old out.new }
 {
     test_ids(ids)?;
     append_set(ids, out)
@@ -65,11 +65,7 @@ pub fn encode(ids: &[u32], out: &mut Vec<u8>) -> Result<(), SetError>
 /// Appends the encoding of a set. The vector grows at most once.
 pub(crate) fn append_set(ids: &[u32], out: &mut Vec<u8>) -> Result<(), SetError>
     requires { IsSet ids.now }
-    ensures ok { OnOk result (out.new.items ≡ out.old.items ++ encoding ids.now) }
-    ensures memory { IfErr result (λ e. e ≡ SetError.Memory) }
-    ensures room { OnErr result (vec_capacity out.old < vec_len out.old + length (encoding ids.now)) }
-    ensures unchanged { OnErr result (out.new.items ≡ out.old.items) }
-    ensures capacity { OnErr result (vec_capacity out.new ≡ vec_capacity out.old) }
+    ensures { Appends (encoding ids.now) result out.old out.new }
 {
     let measured = measure(ids);
     let len = measured.len;

@@ -33,7 +33,7 @@ pub struct IdSet<'a> {
 }
 
 impl<'a> IdSet<'a> {
-    ghost use Rattle.std.specs.Prelude.{◌↔◌, ◌+◌, ◌<◌, ◌++◌, IsTrue, [], drop, length, take, vec_capacity, vec_len, IfErr, IfOk, None, OnErr, OnOk, ◌-◌, min, IfSome, MatchOption, Some, slice_get, slice_index};
+    ghost use Rattle.std.specs.Prelude.{◌↔◌, ◌+◌, ◌<◌, ◌++◌, IsTrue, [], drop, length, take, vec_capacity, vec_len, IfErr, IfOk, None, OnErr, OnOk, ◌-◌, min, IfSome, IsNone, MatchOption, false, Some, slice_get, slice_index};
     ghost use Rattle.bitpack_sets.specs.Chunks.{ids_from};
     ghost use Rattle.bitpack_sets.specs.Errors.{Finds};
     ghost use Rattle.bitpack_sets.specs.Faults.{fault};
@@ -42,6 +42,7 @@ impl<'a> IdSet<'a> {
     ghost use Rattle.bitpack_sets.specs.Reads.{has, rank};
     ghost use Rattle.bitpack_sets.specs.Rooms.{StoresFew};
     ghost use Rattle.bitpack_sets.specs.Sets.{IsSet, encoding};
+    ghost use Rattle.bitpack_sets.specs.Written.{is_in_chunks};
 
     /// Opens an encoded set. Tests all bytes, accepts any, and allocates nothing.
     pub fn open(bytes: &'a [u8]) -> Result<IdSet<'a>, SetError>
@@ -185,7 +186,8 @@ impl<'a> IdSet<'a> {
 
     /// The chunks that are copied if ids follow. It is `None` if the set is not in chunks.
     pub(crate) fn front(&self) -> Option<Front<'a>>
-        ensures { IfSome result (λ front. IsFront (front_ids front) (ids self.now)) }
+        ensures front { IfSome result (λ front. IsFront (front_ids front) (ids self.now)) }
+        ensures none { IsNone result → is_in_chunks (ids self.now) ≡ false }
     {
         if self.bytes[0] != 5 {
             return None;

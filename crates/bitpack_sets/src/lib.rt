@@ -52,6 +52,7 @@ pub use ids::Ids;
 pub use in_place::{add, add_to, remove, retain, retain_if};
 pub use opening::Parts;
 pub use operation::Operation;
+pub use query::testing::test_query;
 pub use query::{Query, query_to};
 pub use query_error::QueryError;
 pub use set_builder::SetBuilder;

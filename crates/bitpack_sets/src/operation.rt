@@ -1,6 +1,6 @@
 //! What two sets are combined by.
 
-ghost use Rattle.std.specs.Prelude.{◌≡◌, ℕ, ◌+◌, ◌<◌, ◌&&◌, ◌||◌, ◌⊎◌, ◌==◌, Bool, true, false};
+ghost use Rattle.std.specs.Prelude.{◌≡◌, ℕ, ◌+◌, ◌<◌, ◌≤◌, ◌&&◌, ◌||◌, ◌⊎◌, ◌==◌, Bool, true, false};
 ghost use Rattle.std.specs.Int.{bit_at};
 ghost use Rattle.bitpack_sets.specs.Bitmaps.{has_bit};
 
@@ -19,6 +19,7 @@ pub enum Operation {
 
 impl Operation {
     ghost use Rattle.bitpack_sets.specs.Operations.{apply};
+    ghost use Rattle.bitpack_sets.specs.Queries.{can_give};
 
     /// Combines the bits of two words.
     #[inline(always)]
@@ -69,10 +70,12 @@ impl Operation {
         }
     }
 
-    /// A key below which the answer has no id, if one set has none below `a` and the other none below `b`.
+    /// The lowest key that the answer can have, if one set has none below `a` and the other none below `b`.
     pub(crate) fn key(self, a: u32, b: u32) -> u32
         ensures either { (result ≡ a) ⊎ (result ≡ b) }
         ensures none { (k : ℕ) (p q : Bool) → k < result → (k < a → p ≡ false) → (k < b → q ≡ false) → apply self p q ≡ false }
+        // From it on the answer can have ids, if one set has some from `a` on and the other from `b` on.
+        ensures some { (k : ℕ) (p q : Bool) → result ≤ k → (a ≤ k → p ≡ true) → (b ≤ k → q ≡ true) → can_give self p q ≡ true }
     {
         match self {
             Operation::And => a.max(b),

@@ -1,8 +1,8 @@
 //! Queries: trees of operations on sets. Their ids come part by part.
 
-ghost use Rattle.std.specs.Prelude.{◌≡◌, ◌++◌, IfErr, IfOk, MatchOption, None, OnErr, length, map, min, take};
+ghost use Rattle.std.specs.Prelude.{◌≡◌, ◌<◌, ◌++◌, IfErr, IfOk, MatchOption, None, OnErr, length, map, min, take, vec_capacity};
 ghost use Rattle.bitpack_sets.specs.Opened.{ids};
-ghost use Rattle.bitpack_sets.specs.Queries.{FindsFault, IsLoaded, answer_of, fault_from, ids_from, is_found, query_fault};
+ghost use Rattle.bitpack_sets.specs.Queries.{FindsFault, IsLoaded, answer_of, fault_from, ids_from, is_found, most_waiting, query_fault};
 
 mod members;
 mod running;
@@ -14,8 +14,7 @@ use crate::as_step::AsStep;
 use crate::id_set::IdSet;
 use crate::query_error::QueryError;
 use crate::step::Step;
-use std::alloc::Global;
-use testing::test_steps;
+use testing::{test_query, test_steps};
 use walking::{END, Walk};
 
 /// Writes the ids from `next` on that a query over sets has at the start of a slice, in increasing order, as many as there are and the slice has
@@ -34,16 +33,13 @@ pub fn query_to<S: AsSet, T: AsStep>(
     out: &mut [u32],
 ) -> Result<usize, QueryError>
     ensures fault { FindsFault result (query_fault (length bitmaps.old) (length sets.now) (map T.its_step steps.now)) }
-    ensures unchanged { OnErr result ((next.new ≡ next.old) × (out.new ≡ out.old)) }
+    ensures unchanged { OnErr result ((next.new ≡ next.old) × (out.new ≡ out.old) × (bitmaps.new ≡ bitmaps.old)) }
     ensures len { IfOk result (λ len. len ≡ min (length out.old)
         (length (ids_from next.old (answer_of (map S.its_ids sets.now) (map T.its_step steps.now))))) }
     ensures ids { IfOk result (λ len. take len out.new ++ ids_from next.new (answer_of (map S.its_ids sets.now) (map T.its_step steps.now))
         ≡ ids_from next.old (answer_of (map S.its_ids sets.now) (map T.its_step steps.now))) }
 {
-    let most = test_steps(steps, sets.len())?;
-    if most > bitmaps.len() {
-        return Err(QueryError::Short(most));
-    }
+    let most = test_query(steps, sets.len(), bitmaps.len())?;
     if *next >= END {
         return Ok(0);
     }
@@ -71,22 +67,22 @@ impl<'a> Query<'a> {
 
     /// A query over sets. Several steps may name one set, and up to 64 operands may wait at once: enough for a tree of 64 sets in any form.
     ///
-    /// It tests the steps, and allocates once: 8 KB for each operand that waits at once. Fails with the first fault of the steps, or with
-    /// `Memory`.
+    /// It tests the steps, and takes a vector for bitmaps, whose items are lost: one of 8 KB for each operand that waits at once. Fails with the
+    /// first fault of the steps, or with `Memory` if the vector has no room for these and cannot grow. It grows at most once.
     pub fn new(
-        alloc: Global,
         sets: &'a [IdSet<'a>],
         steps: &'a [Step],
+        mut bitmaps: Vec<[u64; 1024]>,
     ) -> Result<Query<'a>, QueryError>
         // The first fault of the steps, or `Memory` if they have none.
         ensures err { IfErr result (λ e. MatchOption (fault_from 64 (length sets.now) 0 0 steps.now)
             (e ≡ QueryError.Memory) (λ fault. e ≡ fault)) }
+        ensures room { fault_from 64 (length sets.now) 0 0 steps.now ≡ None → OnErr result (vec_capacity bitmaps < most_waiting 0 steps.now) }
         ensures sound { IfOk result (λ _. fault_from 64 (length sets.now) 0 0 steps.now ≡ None) }
         // All ids are left.
         ensures all { IfOk result (λ query. left query ≡ answer_of (map ids sets.now) steps.now) }
     {
         let most = test_steps(steps, sets.len())?;
-        let mut bitmaps = Vec::new(alloc);
         if bitmaps.resize(most, [0; 1024]).is_err() {
             return Err(QueryError::Memory);
         }

@@ -32,10 +32,10 @@ abbrev pub ids_of_query : List SetView → List Step → ℕ → List ℕ
 ids_of_query views steps next = ids_from next (answer_of (ids_of_views views) steps)
 
 -- the query has a fault, the result and the position say so, and nothing else is written; or the ids from `next` on are written, as many as there
--- are and fit, their number is the result, and those from the new `next` on are left. `next` and `position` are before and after the call.
-pub record AnswersQuery (views : List SetView) (steps : List Step) (bitmaps : ℕ) (next position : ℕ × ℕ) (before after : List ℕ) (answer : ℤ) : Type 0 where
+-- are and fit, their number is the result, and those from the new `next` on are left. `next`, `position` and `space` are before and after the call.
+pub record AnswersQuery (views : List SetView) (steps : List Step) (bitmaps : ℕ) (next position : ℕ × ℕ) (space : List ℕ × List ℕ) (before after : List ℕ) (answer : ℤ) : Type 0 where
   pub refused : (fault : QueryError) → query_fault bitmaps (length views) steps ≡ Some fault
-      → ((answer, position.1) ≡ refusal fault) × (next.1 ≡ next.0) × (after ≡ before)
+      → ((answer, position.1) ≡ refusal fault) × (next.1 ≡ next.0) × (after ≡ before) × (space.1 ≡ space.0)
   pub position_is : query_fault bitmaps (length views) steps ≡ None → position.1 ≡ position.0
   pub count : query_fault bitmaps (length views) steps ≡ None → answer ≡ pos (min (length before) (length (ids_of_query views steps next.0)))
   pub ids : query_fault bitmaps (length views) steps ≡ None

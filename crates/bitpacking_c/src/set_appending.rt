@@ -3,7 +3,7 @@
 ghost use Rattle.std.specs.Prelude.{◌^◌, ◌<◌, ◌++◌, IfOk, length};
 ghost use Rattle.bitpack_sets.specs.Opened.{ids};
 ghost use Rattle.bitpack_sets.specs.Reads.{ids_in};
-ghost use Rattle.bitpack_sets.specs.Written.{WritesWith};
+ghost use Rattle.bitpack_sets.specs.Written.{WritesWith, unpacked};
 ghost use Rattle.bitpacking_c.specs.IdSets.{AnswersSet};
 
 use crate::set_packing::answer;
@@ -22,7 +22,7 @@ pub extern "C" fn bitpacking_set_append(
     position: &mut usize,
 ) -> isize
     ensures { AnswersSet result position.old position.new (λ answer. WritesWith (length room.old)
-        (ids_in view.now.bytes.now ++ ids.now) answer bytes.old bytes.new) }
+        (unpacked (ids_in view.now.bytes.now) ids.now) (ids_in view.now.bytes.now ++ ids.now) answer bytes.old bytes.new) }
 {
     answer(append(&view.as_set(), ids, room, bytes), position)
 }
@@ -34,7 +34,7 @@ fn append(
     room: &mut [u32],
     bytes: &mut [u8],
 ) -> Result<usize, SetError>
-    ensures writes { WritesWith (length room.old) (ids set.now ++ more.now) result bytes.old bytes.new }
+    ensures writes { WritesWith (length room.old) (unpacked (ids set.now) more.now) (ids set.now ++ more.now) result bytes.old bytes.new }
     ensures small { IfOk result (λ size. size < 2 ^ 63) }
 {
     longest_encoding();

@@ -4,7 +4,7 @@ ghost use Rattle.std.specs.Prelude.{◌≡◌, ◌/◌, length, map};
 ghost use Rattle.bitpacking_c.specs.SetQueries.{AnswersQuery, refusal, step_of};
 
 use crate::set_view::SetView;
-use bitpack_sets::{AsStep, Operation, QueryError, Step, query_to};
+use bitpack_sets::{AsStep, Operation, QueryError, Step, query_to, test_query};
 
 // The numbers of operations.
 const AND: u32 = 0xFFFF_FFFF;
@@ -51,17 +51,15 @@ pub extern "C" fn bitpacking_set_query(
     position: &mut usize,
 ) -> isize
     ensures { AnswersQuery views.now (map (λ step. step_of step.number) steps.now) (length space.old / 1024)
-        (next.old, next.new) (position.old, position.new) ids.old ids.new result }
+        (next.old, next.new) (position.old, position.new) (space.old, space.new) ids.old ids.new result }
 {
-    let (bitmaps, _) = space.as_chunks_mut::<1024>();
-    match query_to(views, steps, bitmaps, next, ids) {
-        Ok(count) => count as isize,
-        Err(fault) => {
-            let (number, at) = refuse(fault);
-            *position = at;
-            number
-        }
+    if let Err(fault) = test_query(steps, views.len(), space.len() / 1024) {
+        let (number, at) = refuse(fault);
+        *position = at;
+        return number;
     }
+    let (bitmaps, _) = space.as_chunks_mut::<1024>();
+    query_to(views, steps, bitmaps, next, ids).unwrap() as isize
 }
 
 /// What a call with a fault returns, and the position: of the step that has it, or how many operands are left or wait.

@@ -47,7 +47,7 @@ pub(super) fn combine(operation: Operation, sets: &[&IdSet]) -> Vec<u32> {
 
 /// The set that an operation on two sets gives, or `TooLong` or `Memory`.
 fn try_combine_set(operation: Operation, one: &IdSet, other: &IdSet) -> Result<IdSetBuf, Error> {
-    packed(|bytes| sets::combine_set(operation, &one.code(), &other.code(), bytes))
+    packed(|bytes| sets::combine_set(operation, &one.code(), &other.code(), &mut Vec::new(), bytes))
 }
 
 /// The set that an operation on two sets gives. Panics if there is an error.

@@ -108,7 +108,7 @@ impl IdSet {
     /// # Ok::<(), Error>(())
     /// ```
     pub fn append(&self, ids: &[u32]) -> Result<IdSetBuf, Error> {
-        packed(|bytes| sets::append(&self.code(), ids, bytes))
+        packed(|bytes| sets::append(&self.code(), ids, &mut Vec::new(), bytes))
     }
 }
 

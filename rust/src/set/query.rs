@@ -192,7 +192,7 @@ impl<'a> Query<'a> {
         if let [set] = self.sets[..] {
             return Ok(QueryIds::new(Later::Set(set, 0)));
         }
-        let query = sets::Query::new(&self.sets, &self.steps).map_err(|fault| match fault {
+        let query = sets::Query::new(&self.sets, &self.steps, Vec::new()).map_err(|fault| match fault {
             sets::QueryError::Memory => QueryError::Memory,
             // The steps have no other fault, since each joins two queries.
             _ => QueryError::TooDeep,

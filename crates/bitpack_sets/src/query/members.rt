@@ -3,6 +3,7 @@
 ghost use Rattle.std.specs.Prelude.{◌≡◌, ℕ, ◌/◌, ◌%◌, ◌<◌, ◌≤◌, true, false};
 ghost use Rattle.bitpack_sets.specs.Bitmaps.{has_bit};
 ghost use Rattle.bitpack_sets.specs.Opened.{ids};
+ghost use Rattle.bitpack_sets.specs.Queries.{has_keys};
 ghost use Rattle.bitpack_sets.specs.Reads.{has};
 ghost use Rattle.bitpack_sets.specs.Sets.{IsRising};
 
@@ -15,6 +16,7 @@ pub(crate) fn key_from(set: &IdSet, from: u32) -> u32
     ensures least { from ≤ result }
     ensures most { result ≤ NO_KEY }
     ensures none { (x : ℕ) → from ≤ x / 65536 → x / 65536 < result → has x (ids set.now) ≡ false }
+    ensures some { result < NO_KEY → has_keys result result (ids set.now) ≡ true }
 {
     let mut room = [0; ROOM];
     let chunks = set.chunks(&mut room);

@@ -2,7 +2,7 @@
 
 ghost use Rattle.std.specs.Prelude.{◌≡◌, ℕ, ◌/◌, ◌%◌, ◌<◌, ◌≤◌, None, [], true, false, length, map, slice_index_or};
 ghost use Rattle.bitpack_sets.specs.Bitmaps.{has_bit};
-ghost use Rattle.bitpack_sets.specs.Queries.{fault_from, is_found};
+ghost use Rattle.bitpack_sets.specs.Queries.{can_find, fault_from, is_found};
 ghost use Rattle.bitpack_sets.specs.Reads.{has};
 ghost use Rattle.bitpack_sets.specs.Sets.{IsRising};
 
@@ -21,6 +21,8 @@ pub(crate) fn next_key<S: AsSet, T: AsStep>(sets: &[S], steps: &[T], from: u32) 
     ensures least { from ≤ result }
     ensures most { result ≤ NO_KEY }
     ensures none { (x : ℕ) → from ≤ x / 65536 → x / 65536 < result → is_found (map S.its_ids sets.now) (map T.its_step steps.now) x ≡ false }
+    // The sets that have ids of keys from `from` to this one can give some. For an AND these are all sets.
+    ensures some { result < NO_KEY → can_find (map S.its_ids sets.now) (map T.its_step steps.now) from result ≡ true }
 {
     let mut keys = [0; MOST_WAITING];
     let mut depth = 0;

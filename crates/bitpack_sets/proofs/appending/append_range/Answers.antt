@@ -9,8 +9,8 @@ use Rattle.bitpack_sets.specs.Opened.{ids}
 min-self : (n : ℕ) → min n n ≡ n
 min-self n = omega (arith, min-le_left n n)
 
-pub returns : goal.returns
-returns c =
+pub returns-clause-ids : goal.returns-clause-ids
+returns-clause-ids c =
     let old : List ℕ = c.args.out.now.items in
     let count : ℕ = c.args.count in
     let all : List ℕ = drop c.args.from (ids c.args.set.now) in

@@ -1,6 +1,6 @@
 -- The ids after the copied chunks are a set, and all of them are the ids.
-use Rattle.std.proofs.Common.{◌≡◌, ◌++◌, ℕ, List, Result, Ok, Err, OnOk, arith, rules, ap, drop, length, take, subst, sym, ◌∙◌, length-append}
-use Rattle.bitpack_sets.proofs.EncodeLaws.{accepted, chunks_is}
+use Rattle.std.proofs.Common.{◌≡◌, ◌++◌, ℕ, List, arith, rules, ap, drop, length, take, subst, sym, ◌∙◌, length-append}
+use Rattle.bitpack_sets.proofs.EncodeLaws.{accepted, all_if_array, any_ok, chunks_is, least_unpacked}
 use Rattle.bitpack_sets.proofs.FrontLaws.{all_ids, later_set}
 use Rattle.bitpack_sets.proofs.RefusalLaws.{none_refused}
 use Rattle.bitpack_sets.proofs.appending.write_after.Goals as goal
@@ -8,10 +8,6 @@ use Rattle.bitpack_sets.specs.Fronts.{front_ids}
 use Rattle.bitpack_sets.specs.Opened.{ids}
 use Rattle.bitpack_sets.specs.Sets.{IsSet, encoding, in_chunks, parts}
 use Rattle.bitpack_sets.specs.Written.{WritesBytes}
-
-any_ok : {A E P : Type 0} (result : Result A E) → P → OnOk result P
-any_ok (Ok x) fact = fact
-any_ok (Err x) fact = tt
 
 later : (part ids more : List ℕ) (from from' : ℕ) → part ≡ drop from ids ++ more → from ≡ from' → part ≡ drop from' ids ++ more
 later part ids more from from' e f = e ∙ ap (λ (n : ℕ). drop n ids ++ more) f
@@ -22,7 +18,8 @@ returns-in_err-count c = record {
   len = search rules;
   ok = search rules;
   fault = accepted _ _ (none_refused _ c.requires.set.few c.requires.set.rising) (search rules);
-  room = λ none few. absurd (omega (arith, few, c.in_err-count.ensures.room, length-append (ids c.args.set.now) c.args.more.now));
+  room = λ none few. let least = least_unpacked (front_ids c.args.front.now) (ids c.args.set.now) c.args.more.now c.requires.front in
+      absurd (omega (arith, few, least, c.in_err-count.ensures.room, c.len.ensures.len));
   unchanged = search rules;
 }
 
@@ -35,6 +32,29 @@ pub write_copied-requires-clause-set : goal.write_copied-requires-clause-set
 write_copied-requires-clause-set c =
     subst IsSet (sym (later _ (ids c.args.set.now) c.args.more.now _ _ c.in_ok-count.ensures.ok c.len.ensures.len))
     (later_set (front_ids c.args.front.now) (ids c.args.set.now) c.args.more.now c.requires.front c.requires.set)
+
+-- all ids are unpacked if they become an array
+pub returns-then-len-more : goal.returns-then-len-more
+returns-then-len-more c =
+    let first : List ℕ = front_ids c.args.front.now in
+    let all : List ℕ = ids c.args.set.now ++ c.args.more.now in
+    let same : first ++ take c.in_ok-count.count c.unpack_to.new.room ≡ all =
+    ap (λ (l : List ℕ). first ++ l) (later _ (ids c.args.set.now) c.args.more.now _ _ c.in_ok-count.ensures.ok c.len.ensures.len)
+    ∙ all_ids first (ids c.args.set.now) c.args.more.now c.requires.front in
+    let chunks : c.measure-chunks.result.0 ≡ length (parts 65536 all) = c.measure-chunks.ensures.chunks ∙ ap (λ (l : List ℕ). length (parts 65536 l)) same in
+    let many = c.requires.front.many in
+    let long = length-append (ids c.args.set.now) c.args.more.now in
+    let size = c.len-2.ensures in
+    let whole = all_if_array (ids c.args.set.now) c.args.more.now c.measure-chunks.result.0 (omega arith) chunks (let less = c.if-len-more.true in omega arith) in
+    let is = c.write_unpacked.ensures in
+    record {
+      set = is.set;
+      len = is.len;
+      ok = is.ok;
+      fault = is.fault;
+      room = λ none few. is.room none (omega (arith, few, whole, c.unpack_to.ensures.len));
+      unchanged = is.unchanged;
+    }
 
 pub returns : goal.returns
 returns c =

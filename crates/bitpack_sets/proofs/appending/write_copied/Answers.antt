@@ -1,27 +1,18 @@
 -- The bytes are as many as the encoding has.
-use Rattle.std.proofs.Common.{◌≡◌, ◌+◌, ◌*◌, ◌++◌, ℕ, List, drop, length, ap, sym, arith, rules, ◌∙◌, length-append}
-use Rattle.std.specs.List.{concat}
+use Rattle.std.proofs.Common.{◌≡◌, ◌++◌, ℕ, List, drop, length, ap, arith, rules, ◌∙◌}
 use Rattle.std.proofs.lemmas.List.{length-take-le}
-use Rattle.bitpack_sets.proofs.LongFilled.{chunks_length}
+use Rattle.bitpack_sets.proofs.EncodeLaws.{chunks_len_is}
 use Rattle.bitpack_sets.proofs.appending.write_copied.Goals as goal
 use Rattle.bitpack_sets.specs.Fronts.{front_ids}
-use Rattle.bitpack_sets.specs.Sets.{in_chunks, parts}
-use Rattle.bitpack_sets.specs.Varints.{byte_count, number}
-use Rattle.bitpack_sets.specs.Written.{bodies}
-
-long : (first ids : List ℕ) (len count chunks size : ℕ) → count ≡ length first → chunks ≡ length (parts 65536 (first ++ ids)) → size ≡ length (concat (bodies (first ++ ids)))
-    → len ≡ 2 + length (number (count + length ids)) + length (number chunks) + (2 + byte_count size + byte_count (count + length ids)) * chunks + size → len ≡ length (in_chunks (first ++ ids))
-long first ids len count chunks size a b d e =
-    let whole : count + length ids ≡ length (first ++ ids) = ap (λ (n : ℕ). n + length ids) a ∙ sym (length-append first ids) in
-    e ∙ ap (λ (n : ℕ). 2 + length (number n) + length (number chunks) + (2 + byte_count size + byte_count n) * chunks + size) whole ∙ sym (chunks_length (first ++ ids) chunks size b d)
+use Rattle.bitpack_sets.specs.Sets.{in_chunks}
 
 pub returns-then-out-len : goal.returns-then-out-len
-returns-then-out-len c = let is = long (front_ids c.args.front.now) c.args.ids.now c.chunks_len-len.result c.len.result c.args.chunks c.args.size c.len.ensures.len c.requires.chunks c.requires.size c.chunks_len-len.ensures in record { len = search rules; ok = search rules; short = search rules; room = omega arith; unchanged = search rules }
+returns-then-out-len c = let is = chunks_len_is (front_ids c.args.front.now) c.args.ids.now c.chunks_len-len.result c.len.result c.args.chunks c.args.size c.len.ensures.len c.requires.chunks c.requires.size c.chunks_len-len.ensures in record { len = search rules; ok = search rules; short = search rules; room = omega arith; unchanged = search rules }
 
 pub write-requires-clause-room : goal.write-requires-clause-room
 write-requires-clause-room c =
     length-take-le c.chunks_len-len.result c.args.out.now c.if-out-len.false
-    ∙ long (front_ids c.args.front.now) c.args.ids.now c.chunks_len-len.result c.len.result c.args.chunks c.args.size c.len.ensures.len c.requires.chunks c.requires.size c.chunks_len-len.ensures
+    ∙ chunks_len_is (front_ids c.args.front.now) c.args.ids.now c.chunks_len-len.result c.len.result c.args.chunks c.args.size c.len.ensures.len c.requires.chunks c.requires.size c.chunks_len-len.ensures
 
 pub returns : goal.returns
 returns c =
@@ -29,7 +20,7 @@ returns c =
     let old : List ℕ = c.args.out.now in
     let all : List ℕ = front_ids c.args.front.now ++ c.args.ids.now in
     let is : len ≡ length (in_chunks all) =
-    long (front_ids c.args.front.now) c.args.ids.now len c.len.result c.args.chunks c.args.size c.len.ensures.len c.requires.chunks c.requires.size c.chunks_len-len.ensures in
+    chunks_len_is (front_ids c.args.front.now) c.args.ids.now len c.len.result c.args.chunks c.args.size c.len.ensures.len c.requires.chunks c.requires.size c.chunks_len-len.ensures in
     record {
       len = is;
       ok = ap (λ (l : List ℕ). l ++ drop len old) c.write.ensures ∙ ap (λ n. in_chunks all ++ drop n old) is;

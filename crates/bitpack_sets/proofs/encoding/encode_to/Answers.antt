@@ -13,7 +13,7 @@ returns-then-bytes-len c =
       len = search rules;
       ok = search rules;
       fault = accepted c.args.ids.now _ c.in_ok-test_ids.ensures.fault refl;
-      room = λ none. omega arith;
+      room = λ none few. omega arith;
       unchanged = search rules;
     }
 

@@ -1,4 +1,7 @@
 use Rattle.std.proofs.Common.{map, [], length-set, refl, ◌∙◌, arith, rules}
+use Rattle.bitpack_sets.specs.Operations.{apply}
+use Rattle.bitpack_sets.specs.Queries.{passes}
+use Rattle.bitpack_sets.specs.Reads.{has}
 use Rattle.bitpack_sets.proofs.QueryLaws.{Covers, covers_joined, combine_at, stored_after_combine, stored_after_set, stored_found, set_at}
 use Rattle.bitpack_sets.proofs.query.running.all_highs.Goals as goal
 use Rattle.bitpack_sets.proofs.query.running.all_highs.Goals.{in-Set, in-Combine}
@@ -33,7 +36,7 @@ loop-i-preserved g c = elim c.match-as_step.branch [
         room = rw w.all-is (length-set c.loop-i.all _ _ ∙ before.room);
         few = omega (arith, before.few, fits.room, w.depth-is);
         sound = rw w.depth-is fits.later;
-        stored = λ x h. rw (w.all-is, w.depth-is) (stored_after_set g.T.AsStep.its_step g.S.AsSet.its_ids (Covers x) [] c.loop-i.all _ _ _ c.args.sets.now c.args.steps.now _ _ _ _ x _ c.loop-i-test.true c.index-steps-i.is c.as_step.ensures w.in-Set.is fits.within w.index-sets-set.is w.as_set.ensures
+        stored = λ x h. rw (w.all-is, w.depth-is) (stored_after_set g.T.AsStep.its_step g.S.AsSet.its_ids (Covers x) [] c.loop-i.all _ _ _ c.args.sets.now c.args.steps.now _ _ _ _ apply (has x) _ c.loop-i-test.true c.index-steps-i.is c.as_step.ensures w.in-Set.is fits.within w.index-sets-set.is w.as_set.ensures
             (omega (arith, before.room, before.few, fits.room)) (w.highs_of.ensures x h) (before.stored x h));
       })
   | in-Combine w ↦ (
@@ -43,7 +46,7 @@ loop-i-preserved g c = elim c.match-as_step.branch [
         room = rw w.all-is (length-set c.loop-i.all _ _ ∙ before.room);
         few = omega (arith, before.few, w.depth-is);
         sound = rw w.depth-is wait.later;
-        stored = λ x h. rw (w.all-is, w.depth-is) (stored_after_combine g.T.AsStep.its_step (Covers x) [] c.loop-i.all _ _ _ _ (map g.S.AsSet.its_ids c.args.sets.now) c.args.steps.now _ _ _ x _ c.loop-i-test.true c.index-steps-i.is c.as_step.ensures w.in-Combine.is
+        stored = λ x h. rw (w.all-is, w.depth-is) (stored_after_combine g.T.AsStep.its_step (Covers x) [] c.loop-i.all _ _ _ _ c.args.steps.now _ _ _ apply (passes (has x) (map g.S.AsSet.its_ids c.args.sets.now)) _ c.loop-i-test.true c.index-steps-i.is c.as_step.ensures w.in-Combine.is
             wait.two (omega (arith, wait.two)) (omega (arith, wait.two)) (omega (arith, wait.two, before.room, before.few))
             (λ a b p q. covers_joined w.in-Combine.operation x _ _ _ a b w.highs.ensures.both w.highs.ensures.left w.highs.ensures.right p q) (before.stored x h));
       })

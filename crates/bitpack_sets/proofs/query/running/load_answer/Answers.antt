@@ -1,4 +1,7 @@
 use Rattle.std.proofs.Common.{map, [], ◌-◌, ◌%◌, length-set, refl, ◌∙◌, arith, rules}
+use Rattle.bitpack_sets.specs.Operations.{apply}
+use Rattle.bitpack_sets.specs.Queries.{passes}
+use Rattle.bitpack_sets.specs.Reads.{has}
 use Rattle.bitpack_sets.proofs.QueryLaws.{IsBit, combine_at, joined_set, bit_joined, stored_after_combine, stored_after_set, stored_found, set_at}
 use Rattle.bitpack_sets.proofs.query.running.load_answer.Goals as goal
 use Rattle.bitpack_sets.proofs.query.running.load_answer.Goals.{in-Set, in-Combine}
@@ -36,7 +39,7 @@ loop-i-preserved g c = elim c.match-as_step.branch [
         levels = rw w.bitmaps-is (length-set c.loop-i.bitmaps _ _ ∙ before.levels);
         few = omega (arith, before.few, fits.room, w.depth-is);
         sound = rw w.depth-is fits.later;
-        stored = λ x h there. rw (w.bitmaps-is, w.depth-is) (stored_after_set g.T.AsStep.its_step g.S.AsSet.its_ids (IsBit x) [] c.loop-i.bitmaps _ _ _ c.args.sets.now c.args.steps.now _ _ _ _ x _ c.loop-i-test.true c.index-steps-i.is c.as_step.ensures w.in-Set.is fits.within w.index-sets-set.is w.as_set.ensures
+        stored = λ x h there. rw (w.bitmaps-is, w.depth-is) (stored_after_set g.T.AsStep.its_step g.S.AsSet.its_ids (IsBit x) [] c.loop-i.bitmaps _ _ _ c.args.sets.now c.args.steps.now _ _ _ _ apply (has x) _ c.loop-i-test.true c.index-steps-i.is c.as_step.ensures w.in-Set.is fits.within w.index-sets-set.is w.as_set.ensures
             (omega (arith, before.levels, before.few, fits.room)) (w.load_key.ensures x h there) (before.stored x h there));
       })
   | in-Combine w ↦ (
@@ -48,7 +51,7 @@ loop-i-preserved g c = elim c.match-as_step.branch [
         levels = rw (w.bitmaps-is, is) (length-set c.loop-i.bitmaps _ _ ∙ before.levels);
         few = omega (arith, before.few, w.depth-is);
         sound = rw w.depth-is wait.later;
-        stored = λ x h there. rw (w.bitmaps-is, is, w.depth-is) (stored_after_combine g.T.AsStep.its_step (IsBit x) [] c.loop-i.bitmaps _ _ _ _ (map g.S.AsSet.its_ids c.args.sets.now) c.args.steps.now _ _ _ x _ c.loop-i-test.true c.index-steps-i.is c.as_step.ensures w.in-Combine.is
+        stored = λ x h there. rw (w.bitmaps-is, is, w.depth-is) (stored_after_combine g.T.AsStep.its_step (IsBit x) [] c.loop-i.bitmaps _ _ _ _ c.args.steps.now _ _ _ apply (passes (has x) (map g.S.AsSet.its_ids c.args.sets.now)) _ c.loop-i-test.true c.index-steps-i.is c.as_step.ensures w.in-Combine.is
             wait.two (omega (arith, wait.two)) (omega (arith, wait.two)) (omega (arith, wait.two, before.levels, before.few))
             (λ a b p q. bit_joined w.in-Combine.operation x c.loop-i.bitmaps w.split_at_mut-words.result.0.now w.split_at_mut-words.result.1.now (c.loop-i.depth - 1 - 1) (c.loop-i.depth - 1) w.combine.new.words a b
             parts.front parts.back (omega (arith, wait.two)) (w.combine.ensures.own (x % 65536) (omega arith) there) p q) (before.stored x h there));
