@@ -29,6 +29,7 @@ import install
 import python
 import release
 import rust
+import unproved
 
 EXAMPLES = [it for it in c.PROGRAMS if it.startswith("examples/")]
 PROCESSOR = "x86_64"
@@ -130,6 +131,10 @@ def shared_library(path):
     named = re.search(r"SONAME\s+(\S+)", run("objdump", "-p", path).stdout)
     wanted = f"libbitpacking.so.{version().split('.')[0]}"
     yield "the name that programs look for", None if named and named[1] == wanted == os.readlink(path) else f"it is {named}"
+    # Once a program has started, nothing can write the addresses of functions.
+    table = run("readelf", "--wide", "--dynamic", "--program-headers", path).stdout
+    lacking = [it for it in ("BIND_NOW", "GNU_RELRO") if it not in table]
+    yield "the hardening of the shared library", f"it lacks {' and '.join(lacking)}" if lacking else None
     library = ctypes.CDLL(path)
     library.bitpacking_error_text.restype = ctypes.c_char_p
     text = library.bitpacking_error_text(ctypes.c_ssize_t(-3))
@@ -215,11 +220,23 @@ def dead_links(top):
                 yield f"{os.path.relpath(page, top)} links {link}"
 
 
+def of_a_checkout(folder):
+    """The bytes of a bundle of the same files, from a checkout in a folder, at another time and with other modes."""
+    unproved.copied(folder)
+    for path in bundle.paths(PROCESSOR):
+        os.makedirs(os.path.dirname(f"{folder}/{path}"), exist_ok=True)
+        shutil.copyfile(f"{ROOT}/{path}", f"{folder}/{path}")
+        os.chmod(f"{folder}/{path}", os.stat(f"{folder}/{path}").st_mode & 0o700)
+        os.utime(f"{folder}/{path}", (0, 86400))
+    asked = f"import sys; sys.path[:0] = ['scripts', 'scripts/build']; import bundle; print(bundle.write('out', '{PROCESSOR}'))"
+    os.makedirs(f"{folder}/out")
+    return bytes_of(f"{folder}/{by_cargo.called(sys.executable, '-B', '-c', asked, folder=folder).strip()}")
+
+
 def unpacked(folder):
     """Each check of a bundle as a name and what is wrong, or None."""
-    os.makedirs(f"{folder}/again")
-    one, two = (bytes_of(bundle.write(it, PROCESSOR)) for it in (folder, f"{folder}/again"))
-    yield "two bundles", None if one == two else "they differ"
+    same = bytes_of(bundle.write(folder, PROCESSOR)) == of_a_checkout(f"{folder}/checkout")
+    yield "the bundles of two checkouts", None if same else "they differ"
     with tarfile.open(f"{folder}/{bundle.name_of(PROCESSOR)}.tar.gz") as file:
         file.extractall(folder)
     top = f"{folder}/{bundle.name_of(PROCESSOR)}"
@@ -258,8 +275,8 @@ def checks(parts, *words):
 
 def main():
     if "--cargo" in words("--cargo"):
-        return reported("the library for C by cargo", lambda: checks([installed], "--from", "cargo"), *by_cargo.TOOLS, "objdump")
-    return archives.reported("the installation and the bundle", lambda: checks([installed, unpacked, of_a_commit, releases]))
+        return reported("the library for C by cargo", lambda: checks([installed], "--from", "cargo"), *by_cargo.TOOLS, "objdump", "readelf")
+    return archives.reported("the installation and the bundle", lambda: checks([installed, unpacked, of_a_commit, releases]), "readelf")
 
 
 if __name__ == "__main__":
