@@ -2,7 +2,7 @@
 """Tests that what decides can fail, with made-up results: `report`, by which a script ends; `judged` of scripts/check; `taken`, by which it
 takes a library that `rt ci` proved; `why_not` of scripts/mutate/unproved.py, over what a check printed; `not_refused`, by which scripts
 that read the sources try wrong changes; and `chosen` of scripts/mutate/record.py, if a source or an edit changed: all edits of the crates
-above it are tried then.
+above it are tried then; and `by_crate` of changed.py, by which `scripts/quick` chooses the functions that it proves.
 """
 import contextlib
 import importlib.machinery
@@ -14,6 +14,7 @@ from unittest import mock
 
 sys.path.insert(1, f"{sys.path[0]}/..")
 import common
+import changed
 import changes
 from files import other, written
 import proving
@@ -151,8 +152,52 @@ def records():
         yield "a record of one crate more", record.known(), {"one": "1", "two": "3"}
 
 
+# A source of a crate, and by a part of one of its lines the functions that are proved when that line changed: those of
+# a trait by their module.
+SOURCE = """\
+pub(crate) const FEW: usize = 8;
+static MANY: [usize; 2] = [
+    FEW,
+    9,
+];
+struct Plan { at: usize }
+
+// FEW are none.
+fn none() { let few = 0; }
+
+fn by_clause(n: usize)
+    requires few { n < FEW }
+{
+}
+
+impl Plan {
+    fn start(&self) -> usize { self.at }
+}
+
+impl Wide for Plan {
+    const LANES: usize = 4;
+    fn lanes() -> usize { Self::LANES }
+}
+
+fn through() -> usize { MANY[0] }
+"""
+PROVED = {"FEW: usize": {"by_clause", "through"}, "9,": {"through"}, "at: usize": {"Plan::start", ""}, "LANES: usize": {""}}
+PROVED |= {"let few": {"none"}, "// FEW": set()}
+
+
+def functions():
+    """Each changed line as a name, the functions that are proved then, and those that have to be."""
+    path = "crates/it/src/plan.rt"
+    with mock.patch.object(texts, "CHANGED", {path: SOURCE}):
+        for text, right in PROVED.items():
+            number = SOURCE[: SOURCE.index(text)].count("\n") + 1
+            with mock.patch.object(changed, "lines", lambda at=number: {path: [range(at, at + 1)]}):
+                names = {f"plan::{it}".removesuffix("::") for it in right}
+                yield f"the functions after a change of {text}", changed.by_crate().get("it", set()), names
+
+
 def checks():
-    for part in [reports, parts, libraries, edits, faults, records]:
+    for part in [reports, parts, libraries, edits, faults, records, functions]:
         for name, found, right in part():
             yield name, other(found, right)
 
