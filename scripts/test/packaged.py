@@ -150,9 +150,19 @@ def library_by_cargo(prefix):
     yield "the flag that leaves out", None if LEAVES_OUT in source("docs/C.md") else "docs/C.md does not name it"
     built = failed(run(*c.C99, "-O2", "-s", f"{ROOT}/examples/block.c", static, LEAVES_OUT, "-o", f"{prefix}.small"))
     yield "the size of a small program", built or (None if os.path.getsize(f"{prefix}.small") < SMALL else "it is too great")
-    for words, status in (["--from", "nowhere"], 2), (["--from", "cargo", "--level", archives.ARM], 1):
-        done = by_script(f"{prefix}.other", *words)
-        yield f"install.py {' '.join(words)}", other((done.returncode, os.path.exists(f"{prefix}.other")), (status, False))
+    for words, status, names in [
+        (["--from", "nowhere"], 2, "'nowhere'"),
+        (["--form", "cargo"], 2, "--form"),
+        (["--remove", "--from", "cargo"], 2, "--remove"),
+        (["--from", "cargo", "--level", archives.ARM], 1, archives.ARM),
+    ]:
+        done = by_script(*words, f"{prefix}.other")
+        wrong = other((done.returncode, os.path.exists(f"{prefix}.other")), (status, False))
+        yield f"install.py {' '.join(words)}", wrong or (None if names in done.stdout.splitlines()[-1] else done.stdout)
+    without = [it for it in os.environ["PATH"].split(os.pathsep) if not os.path.exists(f"{it}/rt")]
+    done = by_script("--level", "x86-64", f"{prefix}.cargo", env=dict(os.environ, PATH=os.pathsep.join(without)))
+    said = re.search(rf"there is no rt.*\ncargo .* minutes .*\ninstalled version .*{install.BY_RUSTC}", done.stdout)
+    yield "install.py without rt", failed(done) or (None if said else done.stdout)
 
 
 def installed(folder, *words):
@@ -164,7 +174,7 @@ def installed(folder, *words):
     os.remove(f"{prefix}/share")
     before, done = listed(prefix), by_script(prefix, *words)
     said = f"installed version {version()}{by} under {prefix}: {install.HEADER} {static} "
-    yield "install.py", failed(done) or (None if done.stdout.startswith(said) else done.stdout)
+    yield "install.py", failed(done) or (None if done.stdout.splitlines()[-1].startswith(said) else done.stdout)
     yield from shared_library(f"{prefix}/{install.LINK}")
     yield from by_pkg_config(prefix, compiler)
     to_archive = ["cc", "-std=c99", "-static", f"-I{prefix}/include"], f"{prefix}/{static}"
