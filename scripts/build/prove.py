@@ -3,7 +3,7 @@
 
     prove.py CRATE ..    for `scripts/quick`, which then proves each function of the crate that changes
 
-Of a program it proves and builds the crate too: the script `bitpack` calls it for bitpack_main. All that is below bitpacking_c takes seven
+Of a program it proves and builds the crate too: the script `bitpack` calls it for bitpack_main. All that is below bitpacking_c takes six
 minutes on four cores. The rest of what is printed goes to out/build.log. The status is 0, 1 if a proof failed, or 2 if it was called wrongly.
 """
 import os

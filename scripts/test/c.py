@@ -5,7 +5,7 @@ run with little stack, and once more with the address sanitizer. calls.c is also
 read no table on an x86-64 of each level. The header has no warning of gcc or clang, from C99 to C23 and from C++11 to C++20, for 64 and 32
 bits.
 
-A part that lacks a tool is left out, and named: Debian's qemu-user-static and gcc-aarch64-linux-gnu have what the other processors need.
+A part that lacks a tool is left out, and named.
 """
 import functools
 import re
