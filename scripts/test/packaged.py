@@ -39,6 +39,8 @@ INLINE = ["bitpacking_error_text"]
 NEEDS = {"memcpy", "memmove", "memset", "memcmp", "bcmp", "abort"}
 # The linker leaves out what is not called, by this flag of docs/C.md: the most bytes of a small program then.
 LEAVES_OUT, SMALL = "-Wl,--gc-sections", 200_000
+# What follows the first commands of docs/PYTHON.md.
+IN_PYTHON = f"python -c '{release.IN_PYTHON}'\n"
 # A program of CMake, over the shared library and the static one.
 BY_CMAKE = """cmake_minimum_required(VERSION 3.10)
 project(it C)
@@ -141,6 +143,28 @@ def shared_library(path):
     yield "a function that the header has inline, by its name", None if text == b"The buffer is too short." else f"it returned {text}"
 
 
+def without_rt():
+    """The variables of somebody who has no toolchain to prove with."""
+    return dict(os.environ, PATH=os.pathsep.join(it for it in os.environ["PATH"].split(os.pathsep) if not os.path.exists(f"{it}/rt")))
+
+
+def of_pages(folder):
+    """The first commands of pages in a clone, without `rt`: each page as a name and what is wrong, or None."""
+    interpreter, lack = python.chosen(("numpy", "setuptools", "wheel", "pip", "ensurepip"))
+    lacks = {"docs/C.md": missing("pkg-config"), "docs/PYTHON.md": lack}
+    ends = {"docs/C.md": c.PROGRAMS["examples/id_set.c"], "docs/PYTHON.md": f"{version()} 7 (3, 300)\n"}
+    python.Package(folder, interpreter)
+    for name in "scripts", "examples":
+        os.symlink(f"{ROOT}/{name}", f"{folder}/{name}")
+    env = without_rt() | {"PIP_NO_INDEX": "1", "PIP_NO_BUILD_ISOLATION": "0"}
+    for page in [
+        it for it in ends if not lacks[it] or leave_out(f"the first commands of {it}", f"since there is no {' and no '.join(lacks[it])}")
+    ]:
+        commands = re.search(r"(?:^    .*\n)+", source(page), re.M)[0].replace("python3", interpreter or "").replace("~", folder)
+        done = run("bash", "-e", "-c", f"{commands}{IN_PYTHON * (page == 'docs/PYTHON.md')}", folder=folder, env=env)
+        yield f"the first commands of {page}", failed(done) or (None if done.stdout.endswith(ends[page]) else done.stdout)
+
+
 def library_by_cargo(prefix):
     """Checks of the library that cargo compiled, each as a name and what is wrong, or None."""
     static = f"{prefix}/{install.STATIC}"
@@ -159,8 +183,7 @@ def library_by_cargo(prefix):
         done = by_script(*words, f"{prefix}.other")
         wrong = other((done.returncode, os.path.exists(f"{prefix}.other")), (status, False))
         yield f"install.py {' '.join(words)}", wrong or (None if names in done.stdout.splitlines()[-1] else done.stdout)
-    without = [it for it in os.environ["PATH"].split(os.pathsep) if not os.path.exists(f"{it}/rt")]
-    done = by_script("--level", "x86-64", f"{prefix}.cargo", env=dict(os.environ, PATH=os.pathsep.join(without)))
+    done = by_script("--level", "x86-64", f"{prefix}.cargo", env=without_rt())
     said = re.search(rf"there is no rt.*\ncargo .* minutes .*\ninstalled version .*{install.BY_RUSTC}", done.stdout)
     yield "install.py without rt", failed(done) or (None if said else done.stdout)
 
@@ -285,7 +308,8 @@ def checks(parts, *words):
 
 def main():
     if "--cargo" in words("--cargo"):
-        return reported("the library for C by cargo", lambda: checks([installed], "--from", "cargo"), *by_cargo.TOOLS, "objdump", "readelf")
+        tools = [*by_cargo.TOOLS, "objdump", "readelf", "bash"]
+        return reported("the library for C by cargo", lambda: [*checks([installed], "--from", "cargo"), *checks([of_pages])], *tools)
     return archives.reported("the installation and the bundle", lambda: checks([installed, unpacked, of_a_commit, releases]), "readelf")
 
 
