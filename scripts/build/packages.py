@@ -30,7 +30,7 @@ def install(script):
     elif names:
         print(f"--setup: installs {' '.join(names)}", flush=True)
         env = dict(os.environ, DEBIAN_FRONTEND="noninteractive")
-        called = lambda *words: run("apt-get", "--quiet", "-o", "Acquire::http::Timeout=30", *words, env=env)
+        called = lambda *words: run("apt-get", "--quiet", "-o", "Acquire::http::Timeout=30", "-o", "Acquire::Retries=1", *words, env=env)
         updated, done = called("update"), called(*INSTALL, *names)
         if done.returncode != 0 and updated.returncode == 0:
             # One that this Debian does not have keeps no other away.

@@ -202,7 +202,7 @@ def functions():
 # Prints what is installed, as dpkg-query does, and installs one package of those that apt-get is asked for, if it gets an update. It keeps the words.
 DPKG = "#!/bin/sh\ncat installed; echo other deinstall\n"
 APT = """#!/bin/sh
-shift 3
+shift 5
 echo "$*" >> asked
 [ "$1" = install ] || exit "$UPDATES"
 for it; do [ "$it" = none ] && exit 100; done
