@@ -446,7 +446,8 @@ ptrdiff_t bitpacking_set_count_any(const bitpacking_set *views, size_t views_len
  * SHORT. */
 ptrdiff_t bitpacking_set_size(const uint32_t *ids, size_t ids_len, size_t *position);
 
-/* Returns how many ids of the set are below target. It is the position of target, if the set has it. */
+/* Returns how many ids of the set are below target. It is the position of target, if the set has it. The rank of CRoaring also counts target
+ * itself, if the set has it. */
 size_t bitpacking_set_rank(const bitpacking_set *view, uint32_t target);
 
 /* Unpacks the ids from position `from` on, as many as there are and as fit, and returns how many these are: 0 from the number of ids on. Those in

@@ -154,6 +154,21 @@ def test_a_build_that_fails(cluster, texts, copied, sets):
     assert sorted(map(str, copied.rglob("*"))) == before
 
 
+def test_no_task_of_a_build_that_fails_is_left(cluster, texts, tmp_path):
+    """Tasks run and wait when it fails. The scheduler forgets them, though the error, which is kept here, still has the build's variables."""
+
+    def known():
+        return set(cluster.client.run_on_scheduler(lambda dask_scheduler: list(dask_scheduler.tasks)))
+
+    before = known()
+    with pytest.raises(OSError, match="none.txt") as error:
+        index.build(cluster.client, [*texts, "/none.txt", *9 * texts], tmp_path)
+    deadline = time.monotonic() + LIMIT
+    while known() - before and time.monotonic() < deadline:
+        time.sleep(0.1)
+    assert known() - before == set(), error
+
+
 def test_a_build_over_an_index(cluster, texts, copied, sets):
     """It takes the place of the one before at once. Whoever had opened that one is answered from its shards as long as workers have them mapped."""
     for _ in range(4):

@@ -1,4 +1,5 @@
 """Shards and queries without Dask: their bytes, damage, and how text is split into words."""
+import gc
 import os
 import re
 import struct
@@ -79,6 +80,22 @@ def test_each_bit(tmp_path):
             for it in "a", "bee", "c":
                 damaged.ids(it)
         assert error.value.args[:2] == (path, named)
+
+
+def test_caches_are_bounded(tmp_path):
+    """A process keeps 1,000 shards, and of each 100,000 sets."""
+    names = [f"w{it}" for it in range(100_100)]
+    crc = shards.write(f"{tmp_path}/0", 1, {it: [0] for it in names})["crc"]
+    assert shards.answers(f"{tmp_path}/0", crc, names, True) == [1] * len(names)
+    assert shards.opened(f"{tmp_path}/0", crc).ids.cache_info().currsize == 100_000
+    crc = shards.write(f"{tmp_path}/1", 1, {"a": [0]})["crc"]
+    for it in range(2, 1101):
+        os.link(f"{tmp_path}/1", f"{tmp_path}/{it}")
+        assert shards.answers(f"{tmp_path}/{it}", crc, ["a"], True) == [1]
+    gc.collect()
+    with open("/proc/self/maps", encoding="utf-8") as maps:
+        assert sum(f"{tmp_path}/" in line for line in maps) == 1000
+    shards.opened.cache_clear()
 
 
 def test_stored_before_it_is_named(tmp_path, monkeypatch):

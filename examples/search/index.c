@@ -155,8 +155,8 @@ static int compare_words(const void *a, const void *b)
     return strcmp((*(struct word *const *)a)->text, (*(struct word *const *)b)->text);
 }
 
-/* Refuses to replace what is no regular file, and removes the files that runs left beside it if they were killed. */
-static void prepare(const char *file)
+/* Refuses to replace what is no regular file, and removes the files that runs left beside it if they were killed. Returns its folder, opened, or -1. */
+static int prepare(const char *file)
 {
     const char *slash = strrchr(file, '/'), *name = slash ? slash + 1 : file;
     struct stat status;
@@ -169,6 +169,7 @@ static void prepare(const char *file)
         if (sscanf(rest, ".%d.tmp%n", &process, &end) == 1 && end > 0 && !rest[end] && process > 0 && kill(process, 0) != 0 && errno == ESRCH)
             unlinkat(dirfd(entries), entry->d_name, 0);
     }
+    return entries ? dirfd(entries) : -1;
 }
 
 /* Writes the words in their order, each with the greatest class of its counts, and then of each the set and these classes. */
@@ -197,7 +198,7 @@ static void write_words(void)
 void make_index(char *folder, const char *file, int paragraphs)
 {
     char *name = grown(NULL, strlen(file) + 32, 1);
-    prepare(file);
+    int parent = prepare(file);
     end_item(MAGIC, sizeof MAGIC);
     add_folder(folder, paragraphs);
     write_words();
@@ -208,7 +209,8 @@ void make_index(char *folder, const char *file, int paragraphs)
     end_item((uint8_t[]){start & 0xFF, start >> 8 & 0xFF, start >> 16 & 0xFF, start >> 24}, 4);
     sprintf(name, "%s.%ld.tmp", file, (long)getpid());
     FILE *whole = fopen(name, "wb");
-    if (!whole || fwrite(out.items, 1, out.len, whole) < out.len || fflush(whole) || fsync(fileno(whole)) || rename(name, file)) {
+    if (!whole || fwrite(out.items, 1, out.len, whole) < out.len || fflush(whole) || fsync(fileno(whole)) || rename(name, file) ||
+        (parent >= 0 && fsync(parent))) { /* stores the name */
         warn("%s", file);
         remove(name);
         exit(2);

@@ -47,6 +47,18 @@ SELECT bool_and(by_index('l @@ ' || quote_literal(q), '{}') IS NOT DISTINCT FROM
     FROM (SELECT n, string_agg((n * k * 37 % 90)::text, CASE n % 3 WHEN 0 THEN '|!' WHEN 1 THEN '&!' ELSE '|' END) AS q
         FROM generate_series(1, 60) n, generate_series(1, 5) k GROUP BY n) v;
 DROP EXTENSION intarray;
+-- If the index alone answers, a query reads a few of its pages, and the operator is called for no row. The last one reads all pages.
+SET track_functions = 'all';
+CREATE FUNCTION work(condition text, OUT pages int8, OUT tested int8) LANGUAGE plpgsql AS
+    $$ DECLARE plan json; before int8; BEGIN SELECT coalesce(sum(calls), 0) INTO before FROM pg_stat_xact_user_functions;
+        EXECUTE 'EXPLAIN (ANALYZE, BUFFERS, FORMAT json) SELECT id FROM sets WHERE ' || condition INTO plan;
+        plan = plan -> 0 -> 'Plan' -> 'Plans' -> 0; pages = (plan ->> 'Shared Hit Blocks')::int8 + (plan ->> 'Shared Read Blocks')::int8;
+        SELECT coalesce(sum(calls), 0) - before INTO tested FROM pg_stat_xact_user_functions; END $$;
+SELECT c, pages BETWEEN 1 AND 9, tested FROM unnest(ARRAY['l @> 1', 'l @> ''{1,2}''', 'l && ''{1,2}''', 'l @@ ''1''', 'l @@ ''1&2''',
+    'l @@ ''1|2''', 'l @@ ''1&!2''', 'l @@ ''!1''']) c, work(c);
+SELECT c, tested > 0 FROM unnest(ARRAY['l <@ ''{1,2}''']) c, work(c);
+DROP FUNCTION work;
+RESET track_functions;
 -- The planner's estimates are of the size of the answers, within a factor of 3 and 20 rows.
 SET enable_seqscan = on;
 CREATE FUNCTION estimated(condition text) RETURNS float8 LANGUAGE plpgsql AS

@@ -1,11 +1,8 @@
 use bitpacking::set::{Error, IdSet, IdSetBuf};
 
 fn main() -> Result<(), Error> {
-    let cats = IdSetBuf::pack(&[7, 9, 10, 300])?;
-    let dogs = IdSetBuf::pack(&[9, 11, 300])?;
-    let bytes = cats.as_bytes(); // as they are stored in a file
-    let ids = IdSet::open(bytes)?;
-    println!("{} ids in {} bytes, from 100 on: {:?}", ids.len(), bytes.len(), ids.seek(100));
-    println!("in both: {:?}", (&ids & &dogs).unpack());
+    let (cats, dogs) = (IdSetBuf::pack(&[7, 9, 10, 300])?, IdSetBuf::pack(&[9, 11, 300])?);
+    let ids = IdSet::open(cats.as_bytes())?;
+    println!("from 100 on: {:?}, in both: {:?}", ids.seek(100), (&ids & &dogs).unpack());
     Ok(())
 }

@@ -53,6 +53,8 @@ mod index;
 #[cfg(feature = "std")]
 mod io_errors;
 mod iterator;
+#[cfg(level_v3)]
+mod level;
 mod packers;
 pub mod ranked;
 mod room;
@@ -81,7 +83,7 @@ pub trait BitPacker: Sized + Clone + Copy {
     /// How many values a block has.
     const BLOCK_LEN: usize;
 
-    /// Returns the packer. Its calls run the fastest code for this processor.
+    /// Returns the packer. On x86-64 the calls of `BitPacker8x` use AVX2 if the processor has it; all others use the registers of the target.
     ///
     /// ```
     /// use bitpacking::{BitPacker, BitPacker8x};
@@ -95,8 +97,9 @@ pub trait BitPacker: Sized + Clone + Copy {
     ///
     /// # Panics
     ///
-    /// In this order: if `num_bits` is above 32, if `decompressed` is not `BLOCK_LEN` long, if `compressed` is shorter than
-    /// `compressed_block_size(num_bits)`, or if a value does not fit `num_bits` bits. Nothing is written then.
+    /// In this order: if `num_bits` is above 32, if `decompressed` is not `BLOCK_LEN` long, or if `compressed` is shorter than
+    /// `compressed_block_size(num_bits)`; with debug assertions also if a value does not fit `num_bits` bits. Nothing is written then.
+    /// Without them the bytes of a block with such a value are unspecified; those after them are unchanged.
     ///
     /// ```
     /// use bitpacking::{BitPacker, BitPacker1x};

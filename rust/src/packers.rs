@@ -1,6 +1,6 @@
 //! The packers: each call tests its arguments, and panics as 0.9.3 does, before it calls the proved code.
 
-use crate::bitpacking::{BitPacker as Proved, Kind};
+use crate::bitpacking::{Kind, Steps, Unmeasured as Proved};
 use crate::{BitPacker, Pack, Packer, bitpacking};
 
 /// The proved code of a packer. Users cannot name this trait, so that no other type is a `Packer`.
@@ -22,19 +22,16 @@ fn compress<P: Proved>(kind: Kind, decompressed: &[u32], compressed: &mut [u8], 
             panic!("Input block too small {decompressed}, (expected {block_len})");
         }
         let size = block_len * num_bits as usize / 8;
-        if compressed < size {
-            panic!("Output array too small (numbits {num_bits}). {compressed} <= {size}");
-        }
-        panic!("A value of the block does not fit {num_bits} bits");
+        panic!("Output array too small (numbits {num_bits}). {compressed} <= {size}");
     }
-    let has_room = num_bits <= 32 && decompressed.len() == P::BLOCK_LEN && compressed.len() >= P::compressed_block_size(num_bits);
-    let packer = P::new();
-    // REQUIRES: the block has `BLOCK_LEN` values, as `has_room` says.
-    if !has_room || packer.num_bits_kind(kind, decompressed) > num_bits {
+    if num_bits > 32 || decompressed.len() != P::BLOCK_LEN || compressed.len() < P::compressed_block_size(num_bits) {
         fail(decompressed.len(), compressed.len(), num_bits, P::BLOCK_LEN);
     }
-    // REQUIRES: the block has `BLOCK_LEN` values, which fit `num_bits` bits, at most 32, and there is room for them, as was tested.
-    packer.compress_kind(kind, decompressed, compressed, num_bits)
+    let packer = P::new();
+    // REQUIRES: the block has `BLOCK_LEN` values, as was tested.
+    debug_assert!(packer.num_bits_kind(kind, decompressed) <= num_bits, "A value of the block does not fit {num_bits} bits");
+    // REQUIRES: the block has `BLOCK_LEN` values, `num_bits` is at most 32, and there is room for them, as was tested.
+    packer.pack_unmeasured(kind, decompressed, compressed, num_bits, &mut Steps::new())
 }
 
 /// Unpacks a block, or panics as 0.9.3 does.

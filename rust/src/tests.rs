@@ -1,5 +1,6 @@
 //! Tests of what the crate adds to the proved code, and of both together.
 
+mod allocations;
 mod chains;
 mod column_appending;
 mod column_bytes;
@@ -7,6 +8,9 @@ mod column_model;
 mod column_packing;
 mod column_reading;
 mod column_searching;
+mod hints;
+#[cfg(level_v3)]
+mod level;
 mod packers;
 mod ranked;
 mod set_combining;

@@ -27,7 +27,9 @@ def archive(level, profile="release", top=OUT):
     folder, target = f"{top}/{level}", f"{OUT}/{level}/target"
     whole, names = f"{target}/whole", sorted(choosing.prototypes())
     os.makedirs(folder, exist_ok=True)
-    cargo("build", target, "--profile", profile, "--package", "bitpacking_c", flags=f"-C target-cpu={level}")
+    # The archive of all levels chooses one, so that its parts need no choice of their own.
+    flags = f"-C target-cpu={level} --cfg bitpacking_one_copy"
+    cargo("build", target, "--profile", profile, "--package", "bitpacking_c", flags=flags)
     choosing.written(f"{target}/names", "".join(f"{name}\n" for name in names))
     called("ld", "-r", *(word for name in names for word in ("-u", name)), f"{target}/{profile}/libbitpacking.a", "-o", f"{whole}.o")
     # A panic ends the program, so nothing unwinds.

@@ -3,6 +3,7 @@
 
 - A link leads to a file or folder of the repository, and its anchor to a heading of that page. A file of the repository that a code span names is
   there: its whole path, or a path or name that a file's path ends with.
+- README.md and all pages together have at most as many words as `MOST` says, code included.
 - A bar of docs/speed.svg is as long as its number, which the table of README.md has.
 - A row of docs/PROOFS.md links the function, type or law that has its contract, and after it names clauses or definitions that this has. Each name
   in its claim is in a file that it links, or in a definition; each number is in a contract that it links, or in a definition that this names.
@@ -23,6 +24,7 @@ TOP = r"(?:crates|docs|examples|include|postgres|python|rust|scripts|vectors)/[\
 NAMED = re.compile(TOP + r"|(?:[\w-]+/)*[\w-]+\.(?:rt|antt|edit|py|rs|md)")
 LINK = re.compile(r"\[([^\]]*)\]\(([^)#\s]*)(?:#([^)\s]*))?\)")
 SPAN = re.compile(r"`([^`\n]+)`")
+MOST = {"README.md": 900, "all pages": 23_000}
 
 
 @functools.cache
@@ -127,6 +129,12 @@ def rows():
         yield from (f"{claims.PAGE}: {its[0]}: {why}" for why in faults_of(claim, cited))
 
 
+def lengths():
+    count = {path: len(text_of(path).split()) for path, _ in pages()}
+    count["all pages"] = sum(count.values())
+    yield from (f"{path}: {count[path]} words, more than {most}" for path, most in MOST.items() if count[path] > most)
+
+
 def bars():
     for width, number in re.findall(r'width="([\d.]+)"[^>]*/><text[^>]*>([\d.]+)<', text_of("docs/speed.svg")):
         if abs(float(width) - 320 * float(number)) > 0.1 or not re.search(
@@ -136,4 +144,4 @@ def bars():
 
 
 if __name__ == "__main__":
-    sys.exit(results([links, files, rows, bars], "pages"))
+    sys.exit(results([links, files, rows, lengths, bars], "pages"))

@@ -22,7 +22,12 @@ CALLS = {
     f"{LISTS}/opened/reading.rt": "skip_key read_last; unpack_block_as unpack_block",
     f"{LISTS}/opened/tail.rt": "value_in_tail read_one; read_tail read_words",
     f"{PACKERS}/bit_packer.rt": "; ".join(f"{call} {re.match('[a-z]+(_bits)?', call)[0]}_kind" for call in NINE),
-    **{f"{PACKERS}/bitpacker{lanes}x.rt": "; ".join(f"{kind} {call}" for kind, call in BY_KIND.items()) for lanes in (1, 4, 8)},
+    **{
+        f"{PACKERS}/bitpacker{lanes}x.rt": "; ".join(
+            f"{kind} {call}" for kind, call in [*BY_KIND.items(), ("pack_counted", "pack_unmeasured")]
+        )
+        for lanes in (1, 4, 8)
+    },
 }
 # By crate the file of `Reads`, and by file the functions that lend a new one to a call.
 DOORS = {LISTS: f"{LISTS}/blocks/reads.rt", COLUMNS: f"{COLUMNS}/reads.rt"}

@@ -1,9 +1,9 @@
 #!/usr/bin/env python3
 """Compiles and runs C programs over the archive for all levels of the processor and that of each level: those of examples/, whose output is
-worked by hand, calls.c and ranking.c, and id_sets.c and columns.c over the tables of vectors/. They are C99 with every warning an error,
-run with little stack, and once more with the address sanitizer. calls.c is also C++11 and C++17. In qemu all run on aarch64, and those that
-read no table on an x86-64 of each level, and three over the Rust crate on aarch64. cases.c has random cases. The header has no warning of gcc or clang, from C99 to C23 and from C++11 to C++20, for 64 and 32
-bits.
+worked by hand, calls.c, ranking.c and pages.c, id_sets.c and columns.c over the tables of vectors/, and cases.c, random cases. They are C99 with
+every warning an error, run with little stack, and once more with the address sanitizer. calls.c is also C++11 and C++17. In qemu all run on
+aarch64, those that read no table on an x86-64 of each level, and three over the Rust crate on aarch64. The header has no warning of gcc or
+clang, from C99 to C23 and from C++11 to C++20, for 64 and 32 bits.
 
 A part that lacks a tool is left out, and named.
 """
@@ -30,6 +30,7 @@ ID_SETS = "scripts/test/id_sets.c"
 COLUMN_TABLES = "scripts/test/columns.c"
 RANKING = "scripts/test/ranking.c"
 RANDOM = "scripts/test/cases.c"
+PAGES = "scripts/test/pages.c"
 STACK = 256 << 10  # bytes; the sanitizer needs more
 SANITIZED = ["-fsanitize=address,undefined", "-fno-sanitize-recover=all"]
 # What each compiler is asked for the header, and by language.
@@ -60,9 +61,8 @@ PROGRAMS = {
     "examples/block.c": "128 ids in 32 bytes\n",
     # Gaps of 2 and 4 in turn: one less are 1 and 3, two bits each, and so 2 * 16 bytes for each block of 128.
     "examples/chain.c": "300 numbers: 2 and 2 bits, 64 bytes, 44 numbers as they are\n",
-    # Byte 0, the first id as a number, and a group of the three codes 1, 0 and 289: a byte with their width 9, and 27 bits.
-    "examples/id_set.c": "4 ids in 7 bytes\nthe first from 100 on is 300, at position 3\nin both: 9\nin both: 300\n",
-    # Those four ids, and a fifth with the code 4: four codes of 9 bits take 5 bytes after the byte with their width.
+    "examples/id_set.c": "in both: 9\nin both: 300\n",
+    # Byte 0, the first id 7 as a number, and a group of the codes 1, 0, 289 and 4 of 7, 9, 10, 300 and 305: a byte with their width 9, and 36 bits.
     "examples/growing_set.c": "4 and 1 ids in 8 bytes\nleft: 10\nleft: 305\n",
     # Row r costs 5000 and 37 * r, modulo 1000. Since 37 * 973 is 36001, each price from 5000 to 5999 is there once, and 1 more is 27 rows before.
     # 5100 is in row 300. Each block and each group has a price more than 511 above the least, and so 10 bits. The column has byte 0, 2 bytes for
@@ -78,6 +78,7 @@ PROGRAMS = {
     COLUMN_TABLES: "727 columns, 2605 refusals\n",
     RANKING: "all calls\n",
     RANDOM: "300 cases\n",
+    PAGES: "all calls\n",
 }
 VECTORS = {ID_SETS: ["id_sets", "refused_id_sets", "combined_id_sets"], COLUMN_TABLES: ["columns", "refused_columns"]}
 

@@ -39,7 +39,7 @@ def build(folder, fuzzer, sanitizer):
     """Builds the program. Returns what is wrong, or None."""
     env = dict(os.environ, CARGO_TARGET_DIR=OUT, RUSTFLAGS=" ".join(FLAGS))
     command = ["cargo", "+nightly", "build", "--release", "--offline", "--locked", "--manifest-path", f"{ROOT}/rust/fuzz/Cargo.toml"]
-    built = failed(run(*command, "--target", TARGET, env=env))
+    built = failed(run(*command, "--lib", "--target", TARGET, env=env))
     library = f"{OUT}/{TARGET}/release/libfuzz.a"
     parts = ["-Wl,--whole-archive", fuzzer, sanitizer, "-Wl,--no-whole-archive", library, "-lstdc++", "-lm", "-ldl", "-lpthread", "-lrt"]
     return built or failed(run("clang++", "-o", f"{folder}/fuzz", *parts))

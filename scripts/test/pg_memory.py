@@ -17,12 +17,16 @@ TICKS = 100
 TABLES = """CREATE TABLE stored AS SELECT n, idset(ARRAY(SELECT i * 20 + n % 20 FROM generate_series(1, 3000) i)) AS ids FROM generate_series(1, 2000) n;
 CREATE TABLE two AS SELECT idset(ARRAY(SELECT generate_series(1, 40000, 2))) AS a, idset(ARRAY(SELECT generate_series(2, 40000, 2))) AS b;
 CREATE TABLE mixed AS SELECT ARRAY(SELECT (i::int8 * 2654435761 % 2147483647)::int4 FROM generate_series(1, 5000000) i) AS a;
+CREATE TABLE texts AS SELECT '{1,2}' AS ids, '1&2' AS query;
 CREATE FUNCTION has(ids idset, id int8) RETURNS bool LANGUAGE plpgsql AS 'BEGIN RETURN contains(ids, id); END';"""
 CHANGES = "has(CASE n % 2 WHEN 0 THEN a ELSE b END, n)"
+ALIKE = "(SELECT idset(ARRAY(SELECT generate_series(1, 10000))) AS ids OFFSET 0) q, generate_series(1, 1000)"
 # Statements, what they print, and the most memory in MB.
 SPACE = {
     "a sort frees its copies": ("SELECT count(*) FROM (SELECT ids FROM stored ORDER BY ids OFFSET 0) q", "2000", 60),
     "a parameter that changes is kept once": (f"SELECT count(*) FROM two, generate_series(1, 20000) n WHERE {CHANGES}", "0", 30),
+    "an OR keeps each id once": (f"SELECT cardinality(unite_agg(ids)) FROM {ALIKE}", "10000", 30),
+    "a XOR keeps each id once": (f"SELECT cardinality(symmetric_difference_agg(ids)) FROM {ALIKE}", "0", 30),
     "an index build frees its copies": ("CREATE INDEX ON stored (n) WHERE ids < '{1,2}'", "", 60),
 }
 
@@ -69,8 +73,9 @@ def kept_constant(server):
     wide = "length(repeat('x', i % 60 * 4000)) >= 0 AND"
     answer, used, _ = session(server, f"SELECT count(*) FROM generate_series(1, 5000) i WHERE {wide} contains('{constant}', i)")
     yield "a constant outlives the row", None if answer == "625" and used < 60 else f"{answer}, {used:.0f} MB"
-    for call in ("contains('{}', i)", "'{}' @> idset(ARRAY[i])", "idset(ARRAY[i]) && '{}'"):
-        sql = f"SELECT count(*) FROM generate_series(1, 20000) i WHERE {call}"
+    # The first has so many rows that a constant is not even compared for each of them.
+    for rows, call in (400_000, "contains('{}', i)"), (20_000, "'{}' @> idset(ARRAY[i])"), (20_000, "idset(ARRAY[i]) && '{}'"):
+        sql = f"SELECT count(*) FROM generate_series(1, {rows}) i WHERE {call}"
         short, long = (seconds(server, sql.format(it)) for it in ("{16,40}", constant))
         yield f"a constant is opened once: {call}", None if long < 3 * short + 0.3 else f"{short:.2f} and {long:.2f} s"
 
@@ -113,11 +118,24 @@ def can_be_cancelled(server):
     yield "a sort can be cancelled", None if fine else f"{said[:200]}: {used:.2f} of {whole:.2f} s"
 
 
+def not_cancelled(server, before, call, rows, database):
+    """What is wrong with a call in a statement that is cancelled, or None. The call has to end early, so that the lock after it is not taken."""
+    sql = f"{before}, {call}, pg_try_advisory_lock(1) FROM {rows};\nSELECT count(*) FROM pg_locks WHERE locktype = 'advisory'"
+    said = server.psql(sql, database, "-v", "ON_ERROR_STOP=0")[0]
+    return None if "canceling statement" in said and said.endswith("\n0") else said[-2000:]
+
+
+def ends_if_cancelled(server):
+    """A statement is cancelled just before these calls."""
+    for call in ("cardinality(ids::idset)", "length(query::idset_query::text)"):
+        yield f"{call} is cancelled", not_cancelled(server, "SELECT pg_cancel_backend(pg_backend_pid())", call, "texts", "measured")
+
+
 def checks(server, only=None):
     """All checks, or those of one function, in a database of their own."""
     server.rows("DROP DATABASE IF EXISTS measured")
     server.rows("CREATE DATABASE measured")
     server.rows("CREATE EXTENSION idset; " + TABLES, "measured")
-    for check in [space, kept_constant, grows_evenly, results_are_small, can_be_cancelled]:
+    for check in [space, kept_constant, grows_evenly, results_are_small, can_be_cancelled, ends_if_cancelled]:
         if only in (None, check.__name__):
             yield from check(server)

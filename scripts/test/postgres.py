@@ -140,6 +140,8 @@ def longest(server):
     fits, longer = (f"'\\x{long_set(first + it).hex()}'::bytea" for it in (0, 1))
     said = server.rows(f"SELECT cardinality({fits}::idset), max({fits}::idset)")
     yield "the longest text is taken", other(said, f"{MOST_IDS}|4294967295")
+    before, value = "SET statement_timeout = 100;\nSELECT 1", f"(SELECT {fits}::idset AS ids OFFSET 0) q"
+    yield "writing it is cancelled", pg_memory.not_cancelled(server, before, "length(ids::text)", value, "postgres")
     wanted = f"the text of the idset would have {11 * (MOST_IDS + 1) + 1} bytes"
     for name, sql in {"from bytes": f"{longer}::idset", "by a call": f"{fits}::idset | 1000000000"}.items():
         said, status = server.psql(f"SELECT cardinality({sql})")

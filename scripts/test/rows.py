@@ -97,7 +97,14 @@ def written_out(text, note):
 
 
 def page_lines():
-    """The lines to try of docs/LINES.md. Their columns are at least four spaces apart; an empty line has a note alone."""
+    """The lines that README.md and docs/LINES.md give to ./bitpack, with the answers that they show, and the lines to try of docs/LINES.md. The
+    columns of these are at least four spaces apart; an empty line has a note alone."""
+    for page in "README.md", "docs/LINES.md":
+        shown = re.findall(r"^    \$ (?:echo|printf) '(.*)' \| \./bitpack\n((?:    [^$ ].*\n)+)", source(page), re.M)
+        if not shown:
+            raise LookupError(f"{page} shows no command of ./bitpack")
+        for asked, answers in shown:
+            yield from zip(asked.removesuffix(r"\n").split(r"\n"), answers.replace("    ", "").splitlines(), strict=True)
     shown = source("docs/LINES.md").split("## Lines to try\n")[1].split("\n## ")[0]
     answered, refused = (re.findall(r"^    (.*)$", part, re.M) for part in shown.split("Refused lines"))
     for line in answered:

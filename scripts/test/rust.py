@@ -3,11 +3,16 @@
 
 - its tests, the examples of its comments, and the programs of rust/examples/; clippy and rustdoc; the crate without the standard library;
 - that cargo can publish its package, and builds that alone;
+- that both copies of the modules run, and what the second one calls;
+- random calls, beside models of the standard library: rust/fuzz/random.rs, which runs as many rounds as it is asked for;
+- how many instructions some calls run: scripts/test/instructions.py;
+- that a build translates a source of a crate again after it changed, and that tests see wrong changes;
 - programs outside the repository: one that takes the crate from a git repository, and is built of what `cargo vendor` wrote; one that gets it
   through another crate, which asks for 0.9 of crates.io, by `[patch.crates-io]`, also if its Cargo.lock has another 0.9.3. Nothing is fetched:
   the folder of cargo is empty.
 """
 import functools
+import glob
 import os
 import re
 import subprocess
@@ -18,24 +23,36 @@ sys.path.insert(1, f"{sys.path[0]}/..")
 from common import ROOT, leave_out, missing, reported, run, source, version
 import archives
 import by_cargo
-from files import failed, other, printed, written
+from files import bytes_of, changed, failed, other, printed, written
+import instructions
+import levels
 import unproved
 
 TARGET = f"{archives.OUT}/target"
 # The programs of rust/examples/ and what they print, worked by hand.
 EXAMPLES = {
     # Gaps of 3: two bits each, and so 2 * 16 bytes.
-    "block": "128 ids in 32 bytes\n",
+    "block": f"32 bytes for {[*range(0, 384, 3)]}\n",
     # Gaps of 2 and 4 in turn: one less are 1 and 3, two bits each, and so 2 * 16 bytes for each block of 128.
     "posting_list": "300 numbers: [2, 2] bits, 64 bytes, 44 numbers as they are\n",
-    # The bytes are those of docs/FORMAT.md; 300 is at position 3.
-    "set": "4 ids in 7 bytes, from 100 on: Some((3, 300))\nin both: [9, 300]\n",
+    # 300 is at position 3.
+    "set": "from 100 on: Some((3, 300)), in both: [9, 300]\n",
     # 199 and 205 are below 210.
     "column": "row 2: Some(205)\nrows below 210: [1, 2]\n",
 }
 PROGRAM = "block"
+# What both copies of the modules share, or the second one calls by a trait: none of it has vectors.
+SHARED = ("bitpacking::growing::", "bitpacking::sets::operation::", "bitpacking::ranking::term::")
 # The tests that run under valgrind, by parts of their names.
-FILLING = ["column_reading", "column_searching", "column_appending", "set_combining::two_sets", "set_iter"]
+FILLING = ["column_reading", "column_searching", "column_appending", "set_combining::two_sets", "set_iter", "do_not_fit"]
+# By test a wrong change that it sees, of a file: what allocates, or trusts what an iterator says. They are made at once.
+WRONG = {
+    "allocations::reading_a_set": ("rust/src/set/query.rs", "if let [set] = self.sets[..]", "if let [set, _] = self.sets[..]"),
+    "allocations::appending_to_a_set": ("crates/bitpack_sets/src/appending.rt", "append_after(&front, set,", "append_unpacked(set,"),
+    "allocations::reading_a_column": ("rust/src/column/unpacking.rs", "Vec::with_capacity(self.len())", "Vec::new()"),
+    "allocations::ranking": ("rust/src/ranked.rs", "most.min(documents)]", "documents]"),
+    "hints::builders": ("rust/src/set/builder.rs", ".min(MOST - self.ids.len())", ""),
+}
 MANIFEST = '[package]\nname = "{}"\nversion = "0.0.0"\nedition = "2024"\n\n[dependencies]\n{}\n'
 
 
@@ -74,19 +91,42 @@ def tests():
 
 
 def in_a_release():
-    """Tests in a release, whose indexes are not tested: deep trees of queries, and under valgrind, which tests each access to memory, those that
-    fill vectors and slices."""
+    """Tests in a release, whose indexes and values are not tested: by both copies of the modules that have two, on a processor without AVX2, and
+    under valgrind, which tests each access to memory, those that fill vectors and slices or pack values that do not fit."""
     done = cargo("test", "--profile", "quick", "--lib", "--no-run")
     named = re.search(r"Executable .* \((.+)\)", done.stderr)
     if not named:
         yield "tests in a release", failed(done) or f"no program is named: {done.stderr[-2000:]}"
         return
     program = os.path.join(ROOT, named[1])
-    yield "deep trees in a release", tested(run(program, "set_query"))
+    yield "tests in a release", tested(run(program))
+    yield "tests in a release of the first copy", tested(run(program, env=dict(os.environ, BITPACKING_FIRST_COPY="1")))
+    yield "what the second copy calls", losses(program)
+    if missing(levels.OTHERS):
+        leave_out("tests on a processor without AVX2", f"since there is no {levels.OTHERS}")
+    else:
+        # It ends at an instruction that the processor lacks.
+        old = [levels.OTHERS, "-cpu", "Nehalem", program, "--skip", "simd::v3"]
+        yield "tests on a processor without AVX2", tested(run(*old, "level", "packers::each_block", "set_combining::two_sets"))
     if missing("valgrind"):
         leave_out("tests under valgrind", "since there is no valgrind")
     else:
         yield "tests under valgrind", tested(run("valgrind", "--quiet", "--error-exitcode=9", program, *FILLING))
+
+
+def losses(program):
+    """The functions without features that the second copy of the modules calls in a program, other than those of Rust's library, or None. There an
+    operation on a vector is a call, if it was not compiled into a function with its features."""
+    caller, found, inside = "", set(), 0
+    for line in run("objdump", "-d", "-C", "--no-show-raw-insn", program).stdout.splitlines():
+        caller = line if line.endswith(">:") else caller
+        if "bitpacking::v3::" in caller:
+            inside += "%ymm" in line
+            found.update(
+                it for it in re.findall(r"\b(?:call|jmp) +[0-9a-f]+ <(.+)>$", line) if "::core_arch::" in it or "bitpacking::" in it
+            )
+    lost = sorted(it for it in found if "bitpacking::v3::" not in it and not it.lstrip("<").startswith(SHARED))
+    return "\n".join(lost[:20]) or (None if inside > 1000 else f"{inside} of its instructions have registers of 256 bits")
 
 
 def tested(done):
@@ -164,12 +204,45 @@ def vendored(folder):
     yield "cargo vendor", failed(done) or ran(f"{folder}/it", EXAMPLES[PROGRAM], CARGO_HOME=f"{folder}/home")
 
 
+def random():
+    """Random calls, as a name and what is wrong, or None. Both damaged bytes that open and those that do not have to be among them."""
+    done = cargo("run", "--quiet", "--release", "--bin", "random", "--", "400", "0", package="rust/fuzz")
+    counted = re.search(r"^damaged bytes: [1-9]\d+ opened, [1-9]\d+ did not$", done.stdout, re.M)
+    yield "random calls", None if done.returncode == 0 and counted else f"{done.stdout[-300:]}{done.stderr[-3000:]}"
+
+
+def changed_sources(folder):
+    """Changes in a copy, each as a name and what is wrong, or None. A build has the last line of a source that changed after the build before it;
+    and tests see what WRONG changes."""
+    unproved.copied(folder)
+
+    def built(word, *words):
+        return called(word, "--offline", "--locked", *words, folder=folder, CARGO_TARGET_DIR=f"{folder}/target")
+
+    line = "// It changed."
+    yield "cargo check", failed(built("check"))
+    with open(f"{folder}/crates/bitpack_sets/src/pairing.rt", "a", encoding="utf-8") as file:
+        file.write(f"{line}\n")
+    done, made = built("check"), glob.glob(f"{folder}/target/debug/build/bitpacking-*/out/sets/pairing.rs")
+    yield "a source that changed is translated again", failed(done) or other([bytes_of(it).decode().count(line) for it in made], [1])
+    for path, before, after in WRONG.values():
+        yield f"a change of {path}", changed(f"{folder}/{path}", before, after)
+    done = built("test", "--lib", "--", *(f"tests::{name}" for name in WRONG))
+    failing = re.findall(r"^test tests::(\S+) \.\.\. FAILED$", done.stdout, re.M)
+    yield from (
+        (f"{name} sees a wrong change", None if name in failing else f"{done.stdout[-2000:]}{done.stderr[-2000:]}") for name in WRONG
+    )
+
+
 def checks():
     yield from tests()
     yield from in_a_release()
+    yield from random()
+    yield from instructions.checks()
     with tempfile.TemporaryDirectory(prefix="rust-") as folder:
         yield from packed(f"{folder}/packed")
         yield from vendored(f"{folder}/vendored")
+        yield from changed_sources(f"{folder}/changed")
         yield "a crate that asks for 0.9 of crates.io", through_another(f"{folder}/through", ROOT)
         yield from locked(f"{folder}/locked")
 

@@ -76,6 +76,46 @@ REFUSED = {
     "a -(" * 64 + "a" + ")" * 64: ("a -(" * 64 + "a" + ")" * 64, "too many brackets after a minus are nested"),
 }
 LONGEST_QUERY = 1000
+# A library that is loaded before the others, and says when a program stores a file or names it.
+STORING = """#include <fcntl.h>
+#include <stdio.h>
+#include <sys/stat.h>
+#include <unistd.h>
+int fsync(int file) {
+    char link[40], path[4096] = {0};
+    struct stat status;
+    sprintf(link, "/proc/self/fd/%d", file);
+    if (fstat(file, &status) || readlink(link, path, sizeof path - 1) < 0) return -1;
+    dprintf(2, S_ISDIR(status.st_mode) ? "stored %s\\n" : "stored %s of %ld bytes\\n", path, (long)status.st_size);
+    return fdatasync(file);
+}
+int rename(const char *from, const char *to) {
+    dprintf(2, "named %s\\n", to);
+    return renameat(AT_FDCWD, from, AT_FDCWD, to);
+}
+"""
+# What the program in C is linked with so that it says how many documents each word has that it ranks by.
+RANKING = """#include <stdio.h>
+#include "bitpacking.h"
+static void say(const bitpacking_term *terms, size_t len) {
+    for (size_t i = 0; i < len; i++) fprintf(stderr, "ranked %zu\\n", bitpacking_set_len(&terms[i].set));
+}
+ptrdiff_t __real_bitpacking_best(const bitpacking_term *, size_t, const uint8_t *, size_t, size_t, bitpacking_walk *, size_t, bitpacking_scored *, size_t);
+ptrdiff_t __wrap_bitpacking_best(const bitpacking_term *terms, size_t len, const uint8_t *classes, size_t documents, size_t at_least,
+                                 bitpacking_walk *walks, size_t walks_len, bitpacking_scored *found, size_t room) {
+    say(terms, len);
+    return __real_bitpacking_best(terms, len, classes, documents, at_least, walks, walks_len, found, room);
+}
+ptrdiff_t __real_bitpacking_best_among(const uint32_t *, size_t, const bitpacking_term *, size_t, const uint8_t *, size_t, bitpacking_scored *, size_t);
+ptrdiff_t __wrap_bitpacking_best_among(const uint32_t *ids, size_t ids_len, const bitpacking_term *terms, size_t len, const uint8_t *classes,
+                                       size_t documents, bitpacking_scored *found, size_t room) {
+    say(terms, len);
+    return __real_bitpacking_best_among(ids, ids_len, terms, len, classes, documents, found, room);
+}
+"""
+WRAPPED = "-Wl,--wrap=bitpacking_best,--wrap=bitpacking_best_among"
+# Queries whose first word that counts is not the rarest, by the corpus.
+UNORDERED = ["water | warm | hive", "water warm", "(water | bees) winter", "water warm oven"]
 MISSING, NO_REGULAR = "No such file or directory", "it is no regular file, and is not replaced"
 
 
@@ -237,6 +277,30 @@ def kills(programs):
         os.remove(f"{programs.folder}/killed")
 
 
+def stored(programs):
+    """The bytes of an index are stored before it gets its name, and its name before the program ends."""
+    library, folder = f"{programs.folder}/storing.so", programs.folder
+    yield "the library that sees files stored", failed(run("cc", "-shared", "-fPIC", "-xc", "-", "-o", library, input=STORING))
+    for name, path in [(name, path) for name, path in programs.paths.items() if name != "sanitized"]:
+        given = {"folder": folder, "env": ENVIRONMENT | {"LD_PRELOAD": library}, "stderr": subprocess.PIPE}
+        said = run(path, "index", "files", f"{folder}/stored", **given).stderr
+        size = os.path.getsize(f"{folder}/stored")
+        wanted = f"stored {folder}/stored.0.tmp of {size} bytes\nnamed {folder}/stored\nstored {folder}\n"
+        yield f"what {name} stores", other(re.sub(r"\.\d+\.tmp", ".0.tmp", said), wanted)
+
+
+def rarest_first(programs):
+    """The library in C ranks fastest if it is given the rarest word first."""
+    path = f"{programs.folder}/ranking"
+    made = [*c.C99, WRAPPED, *SOURCES, "-xc", "-", "-xnone", f"{archives.OUT}/{archives.ALL}", "-lm", "-o", path]
+    yield "the program that says what it ranks by", failed(run(*made, input=RANKING))
+    index, _ = programs.index("corpus")
+    for query in UNORDERED:
+        said = run(path, "find", "--explain", index, query, folder=programs.folder, env=ENVIRONMENT).stdout
+        read, ranked_by = ([int(it) for it in re.findall(form, said, re.M)] for form in (r"^\w+: (\d+) documents", r"^ranked (\d+)"))
+        yield f"the order of {query}", other(ranked_by, sorted(read)) if read != sorted(read) else "its words are in order"
+
+
 def damages(programs):
     """Searches in damaged indexes, by queries that read all lists of the index, or those of some words."""
     refused = 0
@@ -266,7 +330,7 @@ def checks():
         programs = Programs(folder)
         yield from programs.faults
         if all(why is None for _, why in programs.faults):
-            for part in against_grep, by_name, ranked.checks, refusals, kills, damages:
+            for part in against_grep, by_name, ranked.checks, refusals, kills, stored, rarest_first, damages:
                 yield from part(programs)
 
 

@@ -1,9 +1,14 @@
 //! Calls that just meet their preconditions. Each edit of this file breaks one of these and leaves the others.
 
+ghost use Rattle.std.specs.Prelude.{◌≡◌, length, take};
+ghost use Rattle.bitpacking.specs.declared.kind.Kind.TheVariants.{Plain};
+ghost use Rattle.bitpacking.specs.Layout.{Holds};
+ghost use Rattle.bitpacking.specs.Width.{Fits};
+
 use bitpack::ListKind;
 use bitpack::chain::{pack_all, unpack_all};
 use bitpack::list2::{self, PackedList, Reads};
-use bitpacking::{BitPacker, BitPacker1x, BitPacker4x, Kind};
+use bitpacking::{BitPacker, BitPacker1x, BitPacker4x, Kind, Steps, Unmeasured};
 
 /// The width of a block of four lanes.
 pub fn width() -> u8 {
@@ -23,6 +28,22 @@ pub fn pack_at_1() -> usize {
 /// Packs a block at the greatest width.
 pub fn pack_at_32() -> usize {
     BitPacker1x::new().compress(&[u32::MAX; 32], &mut [0; 128], 32)
+}
+
+/// Packs values that need two bits at width 1, by the call that does not require that they fit.
+pub fn pack_twos_at_1() -> usize {
+    let mut steps = Steps::new();
+    BitPacker1x::new().pack_unmeasured(Kind::Plain, &[2; 32], &mut [0; 4], 1, &mut steps)
+}
+
+/// Packs bits by that call. The bytes then hold them, since they fit width 1.
+pub fn pack_bits(bits: &[u32], bytes: &mut [u8]) -> usize
+    requires bits { length bits.now ≡ 32 }
+    requires fits { Fits bits.now 1 }
+    requires bytes { length bytes.old ≡ 4 }
+    ensures { Holds 1 1 Plain bits.now (take 4 bytes.new) }
+{
+    BitPacker1x::new().pack_unmeasured(Kind::Plain, bits, bytes, 1, &mut Steps::new())
 }
 
 /// Unpacks a block of width 1.

@@ -70,6 +70,7 @@ fn exact_calls(rt: HostRuntime) {
     same_number(&rt, exact_calls::pack_at_0(), 0, "width 0");
     same_number(&rt, exact_calls::pack_at_1(), 4, "width 1");
     same_number(&rt, exact_calls::pack_at_32(), 128, "width 32");
+    same_number(&rt, exact_calls::pack_twos_at_1(), 4, "width 1 of twos");
     same_number(&rt, exact_calls::unpack(), 4, "a block");
     same_number(&rt, exact_calls::pack_chain(), 8, "a chain packed");
     same_number(&rt, exact_calls::unpack_chain(), 12, "a chain unpacked");

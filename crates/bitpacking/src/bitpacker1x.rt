@@ -4,7 +4,7 @@ ghost use Rattle.std.proofs.Common.{lit≤, refl, rules};
 
 use crate::by_kind::{pack_kind, unpack_kind, width_kind};
 use crate::dispatch::ByWidth;
-use crate::{BitPacker, Counted, Kind, Steps};
+use crate::{BitPacker, Counted, Kind, Steps, Unmeasured};
 
 /// Packs blocks of 32 values: the codes follow each other without gaps, from the lowest bit on.
 #[derive(Clone, Copy)]
@@ -58,6 +58,20 @@ impl BitPacker for BitPacker1x {
     ghost clone_same = { Prim.search rules };
 }
 
+impl Unmeasured for BitPacker1x {
+    #[inline(always)]
+    fn pack_unmeasured(
+        &self,
+        kind: Kind,
+        decompressed: &[u32],
+        compressed: &mut [u8],
+        num_bits: u8,
+        steps: &mut Steps,
+    ) -> usize {
+        pack_kind::<ByWidth, u32>(kind, decompressed, compressed, num_bits, steps)
+    }
+}
+
 impl Counted for BitPacker1x {
     #[inline(always)]
     fn pack_counted(
@@ -68,7 +82,7 @@ impl Counted for BitPacker1x {
         num_bits: u8,
         steps: &mut Steps,
     ) -> usize {
-        pack_kind::<ByWidth, u32>(kind, decompressed, compressed, num_bits, steps)
+        self.pack_unmeasured(kind, decompressed, compressed, num_bits, steps)
     }
 
     #[inline(always)]

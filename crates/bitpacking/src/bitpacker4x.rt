@@ -6,7 +6,7 @@ use crate::by_kind::{pack_kind, unpack_kind, width_kind};
 use crate::dispatch::ByWidth;
 use crate::instruction_set::InstructionSet;
 use crate::kernel::rolled::Rolled;
-use crate::{BitPacker, Counted, Kind, Steps};
+use crate::{BitPacker, Counted, Kind, Steps, Unmeasured};
 use std::simd::prelude::*;
 
 /// Packs blocks of 128 values. Value k is in lane k % 4; the codes of a lane follow each other in every fourth word.
@@ -68,9 +68,9 @@ impl BitPacker for BitPacker4x {
     ghost clone_same = { Prim.search rules };
 }
 
-impl Counted for BitPacker4x {
+impl Unmeasured for BitPacker4x {
     #[inline(always)]
-    fn pack_counted(
+    fn pack_unmeasured(
         &self,
         kind: Kind,
         decompressed: &[u32],
@@ -86,6 +86,20 @@ impl Counted for BitPacker4x {
                 pack_kind::<Rolled, [u32; 4]>(kind, decompressed, compressed, num_bits, steps)
             }
         }
+    }
+}
+
+impl Counted for BitPacker4x {
+    #[inline(always)]
+    fn pack_counted(
+        &self,
+        kind: Kind,
+        decompressed: &[u32],
+        compressed: &mut [u8],
+        num_bits: u8,
+        steps: &mut Steps,
+    ) -> usize {
+        self.pack_unmeasured(kind, decompressed, compressed, num_bits, steps)
     }
 
     #[inline(always)]

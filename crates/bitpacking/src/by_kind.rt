@@ -3,8 +3,9 @@
 ghost use Rattle.std.specs.Prelude.{◌≡◌, ◌*◌, length};
 ghost use Rattle.bitpacking.specs.declared.kind.Kind.TheVariants.{StrictlySorted};
 ghost use Rattle.bitpacking.specs.Codes.{start};
-ghost use Rattle.bitpacking.specs.Calls.{CanPack, CanUnpack};
+ghost use Rattle.bitpacking.specs.Calls.{CanUnpack};
 ghost use Rattle.bitpacking.specs.inner.ByKind.{KindMeasured, KindPacked, KindUnpacked};
+ghost use Rattle.bitpacking.specs.inner.Kernels.{HasRoom};
 
 use crate::Kind;
 use crate::dispatch::Dispatch;
@@ -24,7 +25,7 @@ pub(crate) fn pack_kind<K: Dispatch + RunsOn<R>, R: Register>(
     num_bits: u8,
     steps: &mut Steps,
 ) -> usize
-    requires { CanPack R.LANES num_bits kind decompressed.now compressed.old }
+    requires { HasRoom R.LANES num_bits decompressed.now compressed.old }
     ensures { KindPacked R.LANES num_bits kind decompressed.now compressed.old compressed.new
         result steps.old steps.new }
 {

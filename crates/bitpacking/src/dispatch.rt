@@ -1,8 +1,8 @@
 //! From slices and a width to a kernel: one loop that has the width as an argument, or code of its own for each width.
 
 ghost use Rattle.std.specs.Prelude.{◌+◌};
-ghost use Rattle.bitpacking.specs.Calls.{CanPackCodes, CanUnpack, MovesToPack};
-ghost use Rattle.bitpacking.specs.inner.Kernels.{PackedCodes, UnpackedCodes};
+ghost use Rattle.bitpacking.specs.Calls.{CanUnpack, MovesToPack};
+ghost use Rattle.bitpacking.specs.inner.Kernels.{HasRoom, PackedCodes, UnpackedCodes};
 ghost use Rattle.bitpacking.specs.Moves.{Moves};
 
 mod by_width;
@@ -27,8 +27,7 @@ pub(crate) trait Dispatch {
         num_bits: u8,
         steps: &mut Steps,
     ) -> usize
-        requires { CanPackCodes R.LANES num_bits decompressed.now
-            (T.block_codes start decompressed.now) compressed.old }
+        requires { HasRoom R.LANES num_bits decompressed.now compressed.old }
         ensures packed { PackedCodes R.LANES num_bits (T.block_codes start decompressed.now)
             compressed.old compressed.new result }
         ensures counts { MovesToPack steps.old steps.new num_bits };

@@ -25,8 +25,7 @@ pub(crate) trait Pack {
         width: u32,
         steps: &mut Steps,
     ) -> usize
-        requires { NarrowCanPack R.LANES width source.now.bits source.now.words.now
-            (T.block_codes start source.now.words.now) target.old.bytes.now }
+        requires { NarrowCanPack R.LANES width source.now.bits source.now.words.now target.old.bytes.now }
         ensures packed { KernelPacked R.LANES width
             (T.block_codes start source.now.words.now) target.old target.new result }
         ensures counts { Moves steps.old steps.new 32 width (32 + width) };

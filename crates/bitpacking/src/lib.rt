@@ -36,6 +36,7 @@ mod kinds;
 pub mod laws;
 mod limits;
 mod memory;
+mod unmeasured;
 mod worked_blocks;
 
 pub use bit_packer::BitPacker;
@@ -46,3 +47,4 @@ pub use counted::Counted;
 pub use kind::Kind;
 pub use limits::{LANE_LEN, MAX_BLOCK_LEN, MAX_BLOCK_SIZE, MAX_LANES, MAX_WIDTH};
 pub use memory::Steps;
+pub use unmeasured::Unmeasured;

@@ -255,7 +255,7 @@ static PyObject *Set_is_disjoint(PyObject *self, PyObject *other)
 
 PyMethodDef Set_methods[] = {
     {"seek", Set_seek, METH_O, SIGNED("seek($self, target, /)", "The position and the id of the first id that is at least the target, or None.")},
-    {"rank", Set_rank, METH_O, SIGNED("rank($self, target, /)", "How many ids are below the target.")},
+    {"rank", Set_rank, METH_O, SIGNED("rank($self, target, /)", "How many ids are below the target. The rank of CRoaring also counts the target itself, if the set has it.")},
     {"_gather", Set_gather, METH_O, SIGNED("_gather($self, positions, /)", "The ids at an array of positions, of int64.")},
     {"_contains", Set_contains_many, METH_O, SIGNED("_contains($self, ids, /)", "Whether the set has each id of an array of uint32.")},
     {"_is_disjoint", Set_is_disjoint, METH_O, SIGNED("_is_disjoint($self, other, /)", "Whether no id is in both sets.")},

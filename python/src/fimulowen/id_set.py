@@ -66,7 +66,7 @@ class IdSet(_core.Set):
         return _joined(INTERSECT, self, other)
 
     def __or__(self, other: Iterable[Any]) -> IdSet:
-        """The ids of either."""
+        """The ids of either. Error if there are more than 268,435,456."""
         return _joined(UNITE, self, other)
 
     def __sub__(self, other: Iterable[Any]) -> IdSet:
@@ -74,7 +74,7 @@ class IdSet(_core.Set):
         return _joined(SUBTRACT, self, other)
 
     def __xor__(self, other: Iterable[Any]) -> IdSet:
-        """The ids that one of the two has."""
+        """The ids that one of the two has. Error if there are more than 268,435,456."""
         return _joined(XOR, self, other)
 
     def __rsub__(self, other: Iterable[Any]) -> IdSet:

@@ -24,7 +24,7 @@ use crate::columns::test_pushed;
 #[derive(Clone, Debug)]
 pub struct ColumnBuilder {
     kind: Kind,
-    /// They can be packed: at most 268,435,456, and in the order of the kind.
+    /// Values that can be packed: at most 268,435,456, and in the order of the kind.
     values: Vec<u32>,
 }
 

@@ -37,7 +37,7 @@ pub(super) struct Pages<'a> {
     column: columns::Column<'a>,
     low: u32,
     high: u32,
-    /// None of them is below it.
+    /// None of the positions is below this one.
     from: usize,
 }
 

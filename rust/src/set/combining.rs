@@ -3,7 +3,7 @@
 use alloc::vec::Vec;
 
 use super::packing::packed;
-use super::{IdSet, IdSetBuf};
+use super::{Error, IdSet, IdSetBuf};
 use crate::growing::resize;
 use crate::sets;
 use crate::sets::Operation;
@@ -45,14 +45,23 @@ pub(super) fn combine(operation: Operation, sets: &[&IdSet]) -> Vec<u32> {
     if ids.capacity() > 2 * ids.len() + 32 { ids.as_slice().to_vec() } else { ids }
 }
 
-/// The set that an operation on two sets gives.
+/// The set that an operation on two sets gives, or `TooLong` or `Memory`.
+fn try_combine_set(operation: Operation, one: &IdSet, other: &IdSet) -> Result<IdSetBuf, Error> {
+    packed(|bytes| sets::combine_set(operation, &one.code(), &other.code(), bytes))
+}
+
+/// The set that an operation on two sets gives. Panics if there is an error.
 pub(super) fn combine_set(operation: Operation, one: &IdSet, other: &IdSet) -> IdSetBuf {
-    packed(|bytes| sets::combine_set(operation, &one.code(), &other.code(), bytes)).unwrap_or_else(|error| panic!("{error}"))
+    try_combine_set(operation, one, other).unwrap_or_else(|error| panic!("{error}"))
 }
 
 /// Two sets combined. A call that returns a set allocates 4 bytes for each id of the answer, and the bytes of its encoding.
 impl IdSet {
     /// Returns the set of the ids that both have, also as `&`.
+    ///
+    /// # Panics
+    ///
+    /// If an allocation fails. [`try_intersect`](IdSet::try_intersect) returns an error instead.
     ///
     /// ```
     /// use bitpacking::set::IdSetBuf;
@@ -66,11 +75,28 @@ impl IdSet {
         combine_set(Operation::And, self, other)
     }
 
+    /// Returns the set that [`intersect`](IdSet::intersect) and `&` return.
+    ///
+    /// # Errors
+    ///
+    /// `Memory`, if an allocation fails.
+    ///
+    /// ```
+    /// use bitpacking::set::IdSetBuf;
+    ///
+    /// let (cats, dogs) = (IdSetBuf::pack(&[1, 4, 6, 9])?, IdSetBuf::pack(&[4, 6, 7])?);
+    /// assert_eq!(cats.try_intersect(&dogs)?.unpack(), [4, 6]);
+    /// # Ok::<(), bitpacking::set::Error>(())
+    /// ```
+    pub fn try_intersect(&self, other: &IdSet) -> Result<IdSetBuf, Error> {
+        try_combine_set(Operation::And, self, other)
+    }
+
     /// Returns the set of the ids that at least one of the two has, also as `|`.
     ///
     /// # Panics
     ///
-    /// If there are more than 268,435,456 ids. [`unite_len`](IdSet::unite_len) returns their number.
+    /// If there are more than 268,435,456 ids, or an allocation fails. [`try_unite`](IdSet::try_unite) returns an error instead.
     ///
     /// ```
     /// use bitpacking::set::IdSetBuf;
@@ -84,7 +110,28 @@ impl IdSet {
         combine_set(Operation::Or, self, other)
     }
 
+    /// Returns the set that [`unite`](IdSet::unite) and `|` return.
+    ///
+    /// # Errors
+    ///
+    /// `TooLong`, if there are more than 268,435,456 ids; `Memory`, if an allocation fails.
+    ///
+    /// ```
+    /// use bitpacking::set::IdSetBuf;
+    ///
+    /// let (cats, dogs) = (IdSetBuf::pack(&[1, 4, 6, 9])?, IdSetBuf::pack(&[4, 6, 7])?);
+    /// assert_eq!(cats.try_unite(&dogs)?.unpack(), [1, 4, 6, 7, 9]);
+    /// # Ok::<(), bitpacking::set::Error>(())
+    /// ```
+    pub fn try_unite(&self, other: &IdSet) -> Result<IdSetBuf, Error> {
+        try_combine_set(Operation::Or, self, other)
+    }
+
     /// Returns the set of the ids that this set has and the other lacks, also as `-`.
+    ///
+    /// # Panics
+    ///
+    /// If an allocation fails. [`try_subtract`](IdSet::try_subtract) returns an error instead.
     ///
     /// ```
     /// use bitpacking::set::IdSetBuf;
@@ -98,11 +145,28 @@ impl IdSet {
         combine_set(Operation::AndNot, self, other)
     }
 
+    /// Returns the set that [`subtract`](IdSet::subtract) and `-` return.
+    ///
+    /// # Errors
+    ///
+    /// `Memory`, if an allocation fails.
+    ///
+    /// ```
+    /// use bitpacking::set::IdSetBuf;
+    ///
+    /// let (cats, dogs) = (IdSetBuf::pack(&[1, 4, 6, 9])?, IdSetBuf::pack(&[4, 6, 7])?);
+    /// assert_eq!(cats.try_subtract(&dogs)?.unpack(), [1, 9]);
+    /// # Ok::<(), bitpacking::set::Error>(())
+    /// ```
+    pub fn try_subtract(&self, other: &IdSet) -> Result<IdSetBuf, Error> {
+        try_combine_set(Operation::AndNot, self, other)
+    }
+
     /// Returns the set of the ids that exactly one of the two has, also as `^`.
     ///
     /// # Panics
     ///
-    /// If there are more than 268,435,456 ids.
+    /// If there are more than 268,435,456 ids, or an allocation fails. [`try_symmetric_difference`](IdSet::try_symmetric_difference) returns an error instead.
     ///
     /// ```
     /// use bitpacking::set::IdSetBuf;
@@ -114,6 +178,23 @@ impl IdSet {
     #[must_use]
     pub fn symmetric_difference(&self, other: &IdSet) -> IdSetBuf {
         combine_set(Operation::Xor, self, other)
+    }
+
+    /// Returns the set that [`symmetric_difference`](IdSet::symmetric_difference) and `^` return.
+    ///
+    /// # Errors
+    ///
+    /// `TooLong`, if there are more than 268,435,456 ids; `Memory`, if an allocation fails.
+    ///
+    /// ```
+    /// use bitpacking::set::IdSetBuf;
+    ///
+    /// let (cats, dogs) = (IdSetBuf::pack(&[1, 4, 6, 9])?, IdSetBuf::pack(&[4, 6, 7])?);
+    /// assert_eq!(cats.try_symmetric_difference(&dogs)?.unpack(), [1, 7, 9]);
+    /// # Ok::<(), bitpacking::set::Error>(())
+    /// ```
+    pub fn try_symmetric_difference(&self, other: &IdSet) -> Result<IdSetBuf, Error> {
+        try_combine_set(Operation::Xor, self, other)
     }
 
     /// Replaces the values of a vector by the ids that both have, in increasing order. Allocates only if the capacity of the vector is below the

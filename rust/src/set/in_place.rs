@@ -5,15 +5,9 @@ use alloc::vec::Vec;
 use super::{Error, IdSet};
 use crate::sets;
 
-/// Tests that ids increase. Most do, so that no position is looked for.
+/// Tests that ids increase.
 fn test(ids: &[u32]) -> Result<(), Error> {
-    let falls = |pair: &[u32]| pair[0] >= pair[1];
-    // No branch depends on an id, so that the compiler compares several at once.
-    if !ids.windows(2).fold(false, |any, pair| any | falls(pair)) {
-        return Ok(());
-    }
-    let position = ids.windows(2).position(falls).map_or(0, |before| before + 1);
-    Err(Error::NotSorted(position))
+    sets::first_unsorted(ids).map_or(Ok(()), |position| Err(Error::NotSorted(position)))
 }
 
 /// The set combined with a vector of increasing ids, so that the result of another call is combined further without packing it.

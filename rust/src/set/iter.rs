@@ -85,7 +85,7 @@ impl DoubleEndedIterator for Iter<'_> {
 
 /// The ids of a set that is consumed. It is an [`Iter`] that owns the bytes.
 pub struct IntoIter<B> {
-    /// It reads the bytes, which no call returns or changes.
+    /// The iterator reads the bytes, which no call returns or changes.
     ids: Iter<'static>,
     _bytes: B,
 }

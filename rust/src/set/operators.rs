@@ -7,7 +7,8 @@ use super::{IdSet, IdSetBuf};
 use crate::sets::Operation;
 
 macro_rules! operator {
-    ($operation:expr, $trait:ident $name:ident, $assign_trait:ident $assign_name:ident) => {
+    ($operation:expr, $trait:ident $name:ident, $assign_trait:ident $assign_name:ident, $tried:literal) => {
+        #[doc = concat!("Panics if [`IdSet::", $tried, "`] would return an error.")]
         impl $trait<&IdSet> for &IdSet {
             type Output = IdSetBuf;
 
@@ -16,6 +17,7 @@ macro_rules! operator {
             }
         }
 
+        #[doc = concat!("Panics if [`IdSet::", $tried, "`] would return an error.")]
         impl<B> $trait<&IdSetBuf<B>> for &IdSet {
             type Output = IdSetBuf;
 
@@ -24,6 +26,7 @@ macro_rules! operator {
             }
         }
 
+        #[doc = concat!("Panics if [`IdSet::", $tried, "`] would return an error.")]
         impl<B> $trait<&IdSet> for &IdSetBuf<B> {
             type Output = IdSetBuf;
 
@@ -32,6 +35,7 @@ macro_rules! operator {
             }
         }
 
+        #[doc = concat!("Panics if [`IdSet::", $tried, "`] would return an error.")]
         impl<B, C> $trait<&IdSetBuf<C>> for &IdSetBuf<B> {
             type Output = IdSetBuf;
 
@@ -40,6 +44,7 @@ macro_rules! operator {
             }
         }
 
+        #[doc = concat!("Panics if [`IdSet::", $tried, "`] would return an error.")]
         impl $assign_trait<&IdSet> for IdSetBuf {
             fn $assign_name(&mut self, other: &IdSet) {
                 *self = combine_set($operation, self, other);
@@ -48,7 +53,7 @@ macro_rules! operator {
     };
 }
 
-operator!(Operation::And, BitAnd bitand, BitAndAssign bitand_assign);
-operator!(Operation::Or, BitOr bitor, BitOrAssign bitor_assign);
-operator!(Operation::AndNot, Sub sub, SubAssign sub_assign);
-operator!(Operation::Xor, BitXor bitxor, BitXorAssign bitxor_assign);
+operator!(Operation::And, BitAnd bitand, BitAndAssign bitand_assign, "try_intersect");
+operator!(Operation::Or, BitOr bitor, BitOrAssign bitor_assign, "try_unite");
+operator!(Operation::AndNot, Sub sub, SubAssign sub_assign, "try_subtract");
+operator!(Operation::Xor, BitXor bitxor, BitXorAssign bitxor_assign, "try_symmetric_difference");

@@ -116,7 +116,7 @@ impl IdSet {
 ///
 /// # Panics
 ///
-/// If there are more than 268,435,456 different ids.
+/// If there are more than 268,435,456 different ids, or an allocation fails. [`IdSetBuf::pack`] returns an error instead.
 ///
 /// ```
 /// use bitpacking::set::IdSetBuf;

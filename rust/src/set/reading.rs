@@ -45,7 +45,8 @@ impl IdSet {
         self.code().contains(id)
     }
 
-    /// Returns how many ids are below `id`: its position, if the set has it.
+    /// Returns how many ids are **below** `id`: its position, if the set has it. In `roaring` and CRoaring `rank` also counts `id` itself, if the set
+    /// has it.
     ///
     /// ```
     /// use bitpacking::set::IdSetBuf;

@@ -1,5 +1,5 @@
-//! Four words in a register of SSE2, with instructions of SSSE3 and SSE4.1 if the target has them. `four_arrays` says what each function
-//! returns.
+//! Four words in a register of SSE2, with instructions of SSSE3 and SSE4.1 if the target has them (`newer`). `four_arrays` says what each
+//! function returns.
 // SAFETY, for all blocks: `simd.rs` takes this file only if the target has the instructions. A load or store reads or writes one array, of
 // its own size and at any alignment.
 
@@ -7,6 +7,10 @@
 use core::arch::x86::*;
 #[cfg(target_arch = "x86_64")]
 use core::arch::x86_64::*;
+
+// Registers of eight words may have their own.
+#[allow(unused_imports)]
+pub(super) use super::newer::{bytes_at, bytes_at_16, ge, select, shuffle_3_4_5_6};
 
 pub(super) type Words = __m128i;
 
@@ -24,17 +28,6 @@ operations! {
     fn and(a: Words, b: Words) -> Words { unsafe { _mm_and_si128(a, b) } }
     fn add(a: Words, b: Words) -> Words { unsafe { _mm_add_epi32(a, b) } }
     fn sub(a: Words, b: Words) -> Words { unsafe { _mm_sub_epi32(a, b) } }
-    /// SSE2 compares words with a sign alone.
-    #[cfg(not(target_feature = "sse4.1"))]
-    fn ge(a: Words, b: Words) -> Words {
-        unsafe {
-            let sign = _mm_set1_epi32(i32::MIN);
-            let less = _mm_cmplt_epi32(_mm_xor_si128(a, sign), _mm_xor_si128(b, sign));
-            _mm_xor_si128(less, _mm_set1_epi32(-1))
-        }
-    }
-    #[cfg(target_feature = "sse4.1")]
-    fn ge(a: Words, b: Words) -> Words { unsafe { _mm_cmpeq_epi32(_mm_max_epu32(a, b), a) } }
     fn bits(a: Words) -> u32 { unsafe { _mm_movemask_ps(_mm_castsi128_ps(a)) as u32 } }
     fn widen(bytes: [u8; 8]) -> (Words, Words) {
         unsafe {
@@ -43,16 +36,6 @@ operations! {
             (_mm_unpacklo_epi16(halves, zero), _mm_unpackhi_epi16(halves, zero))
         }
     }
-    #[cfg(not(target_feature = "ssse3"))]
-    fn shuffle_3_4_5_6(a: Words, b: Words) -> Words {
-        // The compiler joins two shuffles to one, so that a loop of few of them is unrolled.
-        unsafe {
-            let (a, b) = (_mm_castsi128_ps(a), _mm_castsi128_ps(b));
-            _mm_castps_si128(_mm_shuffle_ps::<0x98>(_mm_shuffle_ps::<0x03>(a, b), b))
-        }
-    }
-    #[cfg(target_feature = "ssse3")]
-    fn shuffle_3_4_5_6(a: Words, b: Words) -> Words { unsafe { _mm_alignr_epi8::<12>(b, a) } }
     /// One shift if `a` is zero.
     fn shuffle_0_4_5_6(a: Words, b: Words) -> Words {
         unsafe { _mm_or_si128(_mm_and_si128(a, _mm_set_epi32(0, 0, 0, -1)), _mm_slli_si128::<4>(b)) }
@@ -69,28 +52,4 @@ operations! {
     }
     fn at_most_bytes(a: Words, b: Words) -> Words { unsafe { _mm_cmpeq_epi8(_mm_min_epu8(a, b), a) } }
     fn high_bits(a: Words) -> u32 { unsafe { _mm_movemask_epi8(a) as u32 } }
-    #[cfg(not(target_feature = "sse4.1"))]
-    fn select(mask: Words, a: Words, b: Words) -> Words { unsafe { _mm_or_si128(_mm_and_si128(mask, a), _mm_andnot_si128(mask, b)) } }
-    #[cfg(target_feature = "sse4.1")]
-    fn select(mask: Words, a: Words, b: Words) -> Words { unsafe { _mm_blendv_epi8(b, a, mask) } }
-    #[cfg(not(target_feature = "ssse3"))]
-    fn bytes_at(bytes: [u8; 8], indices: [u8; 8]) -> [u8; 8] { indices.map(|index| bytes[usize::from(index & 7)]) }
-    #[cfg(target_feature = "ssse3")]
-    fn bytes_at(bytes: [u8; 8], indices: [u8; 8]) -> [u8; 8] {
-        let mut taken = [0; 8];
-        unsafe {
-            let (all, at) = (_mm_loadl_epi64(bytes.as_ptr().cast()), _mm_loadl_epi64(indices.as_ptr().cast()));
-            _mm_storel_epi64(taken.as_mut_ptr().cast(), _mm_shuffle_epi8(all, at));
-        }
-        taken
-    }
-    #[cfg(not(target_feature = "ssse3"))]
-    fn bytes_at_16(a: Words, indices: Words) -> Words {
-        let (mut bytes, mut at) = ([0; 16], [0; 16]);
-        store_bytes(a, &mut bytes);
-        store_bytes(indices, &mut at);
-        load_bytes(&at.map(|index| bytes[usize::from(index & 15)]))
-    }
-    #[cfg(target_feature = "ssse3")]
-    fn bytes_at_16(a: Words, indices: Words) -> Words { unsafe { _mm_shuffle_epi8(a, indices) } }
 }

@@ -3,6 +3,7 @@
 // A machine may have the vectors of arrays itself.
 #![allow(clippy::duplicate_mod)]
 
+#[path = "tests/worked.rs"]
 mod worked;
 
 // The vectors of arrays: `eight` is twice this `four`.

@@ -180,8 +180,10 @@ fn panics<P: Pack>(packer: &P, kind: Kind) {
     let text = format!("Output array too small (numbits {least}). {short} <= {}", short + 1);
     assert_eq!(compressed(block, short, least), text);
     assert_eq!(compressed(block, 0, 1), format!("Output array too small (numbits 1). 0 <= {}", len / 8));
-    for width in 0..least {
-        assert_eq!(compressed(block, 4 * len, width), format!("A value of the block does not fit {width} bits"));
+    if cfg!(debug_assertions) {
+        for width in 0..least {
+            assert_eq!(compressed(block, 4 * len, width), format!("A value of the block does not fit {width} bits"));
+        }
     }
 
     let mut packed = |values: &[u32], room: usize| {
@@ -208,6 +210,60 @@ fn panics<P: Pack>(packer: &P, kind: Kind) {
     assert_eq!(unpacked(0, 0, 33), too_few(0));
     assert_eq!(unpacked(5 * len, len, 33), "Num bits must be <= 32. Was 33.");
     assert_eq!(unpacked(4 * len - 1, len, 32), format!("Compressed array seems too small. ({} < {}) ", 4 * len - 1, 4 * len));
+}
+
+/// The bytes of codes of any size, as 0.9.3 writes them: the bits of a code above the width are set beside the codes after it.
+#[cfg(not(debug_assertions))]
+fn bytes_of(codes: &[u32], width: usize) -> Vec<u8> {
+    let lanes = codes.len() / 32;
+    let mut words = vec![0; lanes * width];
+    for (k, code) in codes.iter().enumerate() {
+        let (lane, bit) = (k % lanes, k / lanes * width);
+        let (word, shift) = (bit / 32, bit % 32);
+        if width > 0 {
+            words[lanes * word + lane] |= code << shift;
+        }
+        if shift + width > 32 {
+            words[lanes * (word + 1) + lane] |= code >> (32 - shift);
+        }
+    }
+    words.iter().flat_map(|word| word.to_le_bytes()).collect()
+}
+
+/// What is packed in place of the values of a block.
+#[cfg(not(debug_assertions))]
+fn codes_of(kind: Kind, block: &[u32]) -> Vec<u32> {
+    let (before, step) = match kind {
+        Kind::Plain => return block.to_vec(),
+        Kind::Sorted(initial) => (initial, 0),
+        Kind::Strict(initial) => (initial.unwrap_or(u32::MAX), 1),
+    };
+    let values_before = [before].into_iter().chain(block.iter().copied());
+    block.iter().zip(values_before).map(|(value, before)| value.wrapping_sub(before).wrapping_sub(step)).collect()
+}
+
+/// Without assertions a call packs a block that does not fit: it writes the bytes that 0.9.3 does, and no byte after them.
+#[cfg(not(debug_assertions))]
+fn packs_what_does_not_fit<P: Pack>(packer: &P, kind: Kind) {
+    let block: Vec<u32> = (0..P::BLOCK_LEN as u32).map(|k| k.wrapping_mul(0x9E37_79B9)).collect();
+    for width in 0..=32 {
+        let wanted = bytes_of(&codes_of(kind, &block), width.into());
+        let mut bytes = vec![CANARY; 4 * P::BLOCK_LEN + 1];
+        assert_eq!(compress(packer, kind, &block, &mut bytes[..], width), wanted.len());
+        assert_eq!(bytes[..wanted.len()], wanted[..]);
+        assert!(bytes[wanted.len()..].iter().all(|byte| *byte == CANARY));
+        assert_eq!(compress(packer, kind, &block, &mut bytes[..wanted.len()], width), wanted.len());
+    }
+}
+
+#[test]
+#[cfg(not(debug_assertions))]
+fn each_width_for_values_that_do_not_fit() {
+    for kind in [Kind::Plain, Kind::Sorted(7), Kind::Strict(Some(7)), Kind::Strict(None)] {
+        packs_what_does_not_fit(&BitPacker1x::new(), kind);
+        packs_what_does_not_fit(&BitPacker4x::new(), kind);
+        packs_what_does_not_fit(&BitPacker8x::new(), kind);
+    }
 }
 
 #[test]

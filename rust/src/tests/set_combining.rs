@@ -40,6 +40,8 @@ fn two_sets() {
         // The bytes are the ids packed.
         assert!(sets.iter().zip(&right).all(|(set, ids)| set.as_bytes() == IdSetBuf::pack(ids).unwrap().as_bytes()));
         assert_eq!([&a & &b, &a | &b, &a - &b, &a ^ &b], sets);
+        let tried = [IdSet::try_intersect, IdSet::try_unite, IdSet::try_subtract, IdSet::try_symmetric_difference];
+        assert_eq!(tried.map(|call| call(&a, &b).unwrap()), sets);
         assert_eq!([&a & &borrowed, &*a | &borrowed, &a - &*borrowed, &*a ^ &*borrowed], sets);
         let mut changed = [a.clone(), a.clone(), a.clone(), a.clone()];
         changed[0] &= &borrowed;
@@ -118,6 +120,11 @@ fn more_ids_than_a_set_has() {
         let panic = catch_unwind(|| call(&one, &other)).err().unwrap();
         assert!(panic.downcast_ref::<std::string::String>().unwrap().contains("536870912 ids are more than 268435456"));
     }
+    for call in [IdSet::try_unite, IdSet::try_symmetric_difference] {
+        assert_eq!(call(&one, &other).err(), Some(Error::TooLong(1 << 29)));
+    }
+    assert_eq!(one.try_intersect(&other), Ok(IdSetBuf::default()));
+    assert_eq!(one.try_subtract(&one), Ok(IdSetBuf::default()));
     assert_eq!(one.subtract(&one), IdSetBuf::default());
 }
 

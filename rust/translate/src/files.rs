@@ -7,8 +7,9 @@ use std::io;
 use std::path::{Path, PathBuf};
 use std::thread;
 
+use crate::levels::COPIED;
 use crate::paths::{CRATES, Module};
-use crate::{Wrong, in_rust, unchecked};
+use crate::{Wrong, copies, in_rust, unchecked};
 
 /// The file that declares the modules.
 const MODULES: &str = "modules.rs";
@@ -18,14 +19,14 @@ const ALLOWED: &str = "#[allow(unused, clippy::all, improper_ctypes_definitions)
 /// The files of a folder, by their paths in it.
 type Files = BTreeMap<PathBuf, String>;
 
-/// Translates the crates of a folder into modules in the folder `out`, which has nothing else. Only files that change are written, and those that
-/// are no longer made are removed. Returns how many files it has.
-pub fn translate(crates: &Path, out: &Path) -> Result<usize, Wrong> {
+/// Translates the crates of a folder into modules in the folder `out`, which has nothing else, with or without a second copy of those that have one.
+/// Only files that change are written, and those that are no longer made are removed. Returns how many files it has.
+pub fn translate(crates: &Path, out: &Path, twice: bool) -> Result<usize, Wrong> {
     // Side by side, since all else of a build waits for it.
     let parts = thread::scope(|threads| {
-        CRATES.map(|module| threads.spawn(move || of_crate(crates, module))).map(|it| it.join().expect("no rule panics"))
+        CRATES.map(|module| threads.spawn(move || of_crate(crates, module, twice))).map(|it| it.join().expect("no rule panics"))
     });
-    let mut made = Files::from([(MODULES.into(), declared())]);
+    let mut made = Files::from([(MODULES.into(), declared(twice))]);
     for part in parts {
         made.append(&mut part?);
     }
@@ -34,21 +35,27 @@ pub fn translate(crates: &Path, out: &Path) -> Result<usize, Wrong> {
 }
 
 /// The files of the module of a crate.
-fn of_crate(crates: &Path, module: Module) -> Result<Files, Wrong> {
+fn of_crate(crates: &Path, module: Module, twice: bool) -> Result<Files, Wrong> {
     let folder = crates.join(module.of).join("src");
     let mut made = Files::new();
     for path in paths_in(&folder)? {
         let source = read(&folder.join(&path))?;
-        let text = in_rust(&source, module, !unchecked::names(module, &path))
-            .map_err(|it| Wrong { file: folder.join(&path).display().to_string(), ..it })?;
-        made.insert(place(module, &path), text);
+        let named = |it: Wrong| Wrong { file: folder.join(&path).display().to_string(), ..it };
+        let text = in_rust(&source, module, !unchecked::names(module, &path)).map_err(named)?;
+        let (place, file) = (place(module, &path), path.to_string_lossy());
+        if !twice || !COPIED.contains(&module.name) {
+            made.insert(place, text);
+            continue;
+        }
+        made.insert(Path::new("v3").join(&place), copies::second(&text, module.name, &file).map_err(named)?);
+        made.insert(place, copies::first(&text, module.name, &file).map_err(named)?);
     }
     Ok(made)
 }
 
 /// The declarations of the modules. What only the functions for C call is there with the feature `c`, and a user can name the modules with the
 /// feature `__source`.
-fn declared() -> String {
+fn declared(twice: bool) -> String {
     let mut text = String::new();
     for module in CRATES {
         let condition = if module.is_for_c { "feature = \"c\", " } else { "" };
@@ -56,6 +63,10 @@ fn declared() -> String {
             let name = module.name;
             writeln!(text, "#[cfg(all({condition}{source}))]\n{ALLOWED}\n{visible}mod {name};").expect("a string has room");
         }
+    }
+    if twice {
+        let modules: Vec<String> = COPIED.iter().map(|name| format!("    pub(crate) mod {name};\n")).collect();
+        writeln!(text, "{ALLOWED}\nmod v3 {{\n{}}}", modules.concat()).expect("a string has room");
     }
     text
 }

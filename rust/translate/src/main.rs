@@ -5,10 +5,12 @@
 
 mod c_calls;
 mod checks;
+mod copies;
 mod files;
 mod ghosts;
 mod items;
 mod layout;
+mod levels;
 mod paths;
 mod rules;
 #[cfg(test)]
@@ -63,15 +65,32 @@ fn in_rust(source: &str, module: Module, tests_indexes: bool) -> Result<String, 
     Ok(made)
 }
 
+/// Whether the build has a second copy: processors of the target may have features of that copy that the target lacks, and no
+/// `--cfg bitpacking_one_copy` was given, for a library that chooses a level itself.
+fn has_two_copies() -> bool {
+    let has = |name: &str, value: &str| env::var(name).is_ok_and(|it| it.split(',').any(|it| it == value));
+    let features = "CARGO_CFG_TARGET_FEATURE";
+    let lacks_some = !levels::FEATURES.split(',').all(|it| has(features, it));
+    has("CARGO_CFG_TARGET_ARCH", "x86_64")
+        && has(features, "sse2")
+        && lacks_some
+        && env::var("CARGO_CFG_BITPACKING_ONE_COPY").is_err()
+}
+
 fn main() -> ExitCode {
     let given: Vec<String> = env::args().skip(1).collect();
     let made = match (given.as_slice(), env::var("CARGO_MANIFEST_DIR"), env::var("OUT_DIR")) {
-        ([crates, out], _, _) => translate(Path::new(crates), Path::new(out)),
+        ([crates, out], _, _) => translate(Path::new(crates), Path::new(out), false),
         ([], Ok(package), Ok(out)) => {
             let crates = Path::new(&package).join("crates");
             println!("cargo::rerun-if-changed={}", crates.display());
             println!("cargo::rerun-if-changed={}", Path::new(&package).join("rust/translate/src").display());
-            translate(&crates, Path::new(&out))
+            println!("cargo::rustc-check-cfg=cfg(level_v3)");
+            let twice = has_two_copies();
+            if twice {
+                println!("cargo::rustc-cfg=level_v3");
+            }
+            translate(&crates, Path::new(&out), twice)
         }
         _ => {
             eprintln!("translate CRATES OUT");

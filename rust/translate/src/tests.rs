@@ -2,6 +2,7 @@
 
 mod c_calls;
 mod clauses;
+mod copies;
 mod files;
 mod ghosts;
 mod items;

@@ -1,15 +1,22 @@
 -- The arguments of a kernel, and what it leaves: as the clauses of the calls, but of codes instead of a block and its
 -- kind.
-use Rattle.std.specs.Prelude.{◌≡◌, ℕ, ◌*◌, ◌<◌, List, take, drop}
+use Rattle.std.specs.Prelude.{◌≡◌, ℕ, ◌*◌, ◌<◌, ◌≤◌, List, length, take, drop}
 use Rattle.bitpacking.specs.Bits.{AreBytes}
-use Rattle.bitpacking.specs.Calls.{CanPackCodes, CanUnpack}
+use Rattle.bitpacking.specs.Calls.{CanUnpack}
 use Rattle.bitpacking.specs.Layout.{size, Layout}
+use Rattle.bitpacking.specs.Width.{Fits}
 use Rattle.bitpacking.specs.declared.memory.ByteTarget.{ByteTarget}
 use Rattle.bitpacking.specs.declared.memory.ValueTarget.{ValueTarget}
 
+-- a whole block, a width, and room for its bytes
+pub record HasRoom (lanes width : ℕ) (values buffer : List ℕ) : Type 0 where
+  pub whole : length values ≡ 32 * lanes
+  pub narrow : width ≤ 32
+  pub room : size lanes width ≤ length buffer
+
 -- as the arguments of a call, with the bits of a lane that each register of values counts for
-pub record KernelCanPack (lanes width counted : ℕ) (values codes buffer : List ℕ) : Type 0 where
-  pub can : CanPackCodes lanes width values codes buffer
+pub record KernelCanPack (lanes width counted : ℕ) (values buffer : List ℕ) : Type 0 where
+  pub can : HasRoom lanes width values buffer
   pub bits : counted ≡ width
   pub are_bytes : AreBytes buffer
 
@@ -19,18 +26,17 @@ pub record KernelCanUnpack (lanes width counted : ℕ) (bytes values : List ℕ)
   pub are_bytes : AreBytes bytes
 
 -- as the arguments of a kernel that packs or unpacks codes of fewer than 32 bits
-pub record NarrowCanPack (lanes width counted : ℕ) (values codes buffer : List ℕ) : Type 0 where
+pub record NarrowCanPack (lanes width counted : ℕ) (values buffer : List ℕ) : Type 0 where
   pub narrow : width < 32
-  pub can : KernelCanPack lanes width counted values codes buffer
+  pub can : KernelCanPack lanes width counted values buffer
 
 pub record NarrowCanUnpack (lanes width counted : ℕ) (bytes values : List ℕ) : Type 0 where
   pub narrow : width < 32
   pub can : KernelCanUnpack lanes width counted bytes values
 
--- the buffer begins with the layout of the codes, which has as many bytes as were written, and the rest of it is
--- unchanged
+-- if the codes fit, the buffer begins with their layout, which has as many bytes as were written; the rest of it is unchanged
 pub record PackedCodes (lanes width : ℕ) (codes old new : List ℕ) (written : ℕ) : Type 0 where
-  pub layout : Layout lanes width codes (take (size lanes width) new)
+  pub layout : Fits codes width → Layout lanes width codes (take (size lanes width) new)
   pub rest : drop (size lanes width) new ≡ drop (size lanes width) old
   pub count : written ≡ size lanes width
 

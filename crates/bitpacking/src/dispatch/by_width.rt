@@ -1,7 +1,7 @@
 //! Code of its own for each width: shifts and indexes are constants there.
 
-ghost use Rattle.bitpacking.specs.Calls.{CanPackCodes, CanUnpack, MovesToPack};
-ghost use Rattle.bitpacking.specs.inner.Kernels.{PackedCodes, UnpackedCodes};
+ghost use Rattle.bitpacking.specs.Calls.{CanUnpack, MovesToPack};
+ghost use Rattle.bitpacking.specs.inner.Kernels.{HasRoom, PackedCodes, UnpackedCodes};
 ghost use Rattle.bitpacking.specs.Moves.{Moves};
 ghost use Rattle.std.specs.Prelude.{◌+◌};
 
@@ -112,8 +112,7 @@ fn pack_at<R: Register, T: Transformer<R>, const WIDTH: u8>(
     compressed: &mut [u8],
     steps: &mut Steps,
 ) -> usize
-    requires { CanPackCodes R.LANES WIDTH decompressed.now
-        (T.block_codes start decompressed.now) compressed.old }
+    requires { HasRoom R.LANES WIDTH decompressed.now compressed.old }
     ensures packed { PackedCodes R.LANES WIDTH (T.block_codes start decompressed.now)
         compressed.old compressed.new result }
     ensures counts { MovesToPack steps.old steps.new WIDTH }

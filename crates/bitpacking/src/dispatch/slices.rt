@@ -1,7 +1,7 @@
 //! From slices and a width to loops: the loops for width 32, or the loops for fewer bits. At width 0 no register is loaded to pack.
 
-ghost use Rattle.bitpacking.specs.Calls.{CanPackCodes, CanUnpack, MovesToPack};
-ghost use Rattle.bitpacking.specs.inner.Kernels.{PackedCodes, UnpackedCodes};
+ghost use Rattle.bitpacking.specs.Calls.{CanUnpack, MovesToPack};
+ghost use Rattle.bitpacking.specs.inner.Kernels.{HasRoom, PackedCodes, UnpackedCodes};
 ghost use Rattle.bitpacking.specs.Moves.{Moves};
 ghost use Rattle.std.specs.Prelude.{◌+◌};
 
@@ -49,7 +49,7 @@ pub(super) fn pack_slices<K: Pack, R: Register, T: Transformer<R>>(
     width: u8,
     steps: &mut Steps,
 ) -> usize
-    requires { CanPackCodes R.LANES width values.now (T.block_codes start values.now) bytes.old }
+    requires { HasRoom R.LANES width values.now bytes.old }
     ensures packed { PackedCodes R.LANES width (T.block_codes start values.now) bytes.old bytes.new result }
     ensures counts { MovesToPack steps.old steps.new width }
 {

@@ -17,8 +17,7 @@ pub(crate) fn pack_32<R: Register, T: Transformer<R>>(
     start: u32,
     steps: &mut Steps,
 ) -> usize
-    requires can { KernelCanPack R.LANES 32 source.now.bits source.now.words.now
-        (T.block_codes start source.now.words.now) target.old.bytes.now }
+    requires can { KernelCanPack R.LANES 32 source.now.bits source.now.words.now target.old.bytes.now }
     ensures packed { KernelPacked R.LANES 32 (T.block_codes start source.now.words.now) target.old target.new result }
     ensures counts { Moves steps.old steps.new 32 32 64 }
 {

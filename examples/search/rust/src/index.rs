@@ -136,8 +136,8 @@ fn read(path: &Path, kind: FileType, left: &mut Vec<PathBuf>) -> io::Result<Vec<
     Ok(Vec::new())
 }
 
-/// Refuses to replace what is no regular file, and removes the files that runs left beside it if they were killed.
-fn prepare(file: &Path) -> Result<()> {
+/// Refuses to replace what is no regular file, and removes the files that runs left beside it if they were killed. Returns its folder.
+fn prepare(file: &Path) -> Result<&Path> {
     if fs::symlink_metadata(file).is_ok_and(|status| !status.is_file()) {
         return Err(about(file, "it is no regular file, and is not replaced").into());
     }
@@ -151,12 +151,12 @@ fn prepare(file: &Path) -> Result<()> {
             fs::remove_file(entry.path())?;
         }
     }
-    Ok(())
+    Ok(folder)
 }
 
 /// Writes an index of the text files below a folder. Returns what to print.
 pub fn index(folder: &Path, file: &Path, paragraphs: bool) -> Result<(Vec<u8>, bool)> {
-    prepare(file)?;
+    let parent = prepare(file)?;
     let mut builder = Builder::default();
     builder.end_item(MAGIC)?;
     builder.add_folder(folder, paragraphs)?;
@@ -166,7 +166,8 @@ pub fn index(folder: &Path, file: &Path, paragraphs: bool) -> Result<(Vec<u8>, b
     let written = File::create(&name).and_then(|mut out| {
         out.write_all(&builder.bytes)?;
         out.sync_all()?;
-        fs::rename(&name, file)
+        fs::rename(&name, file)?;
+        File::open(parent).map_or(Ok(()), |parent| parent.sync_all()) // stores the name
     });
     if let Err(error) = written {
         let _ = fs::remove_file(&name);

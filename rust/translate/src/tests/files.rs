@@ -29,7 +29,7 @@ impl Folder {
     }
 
     fn translate(&self) -> Result<usize, String> {
-        translate(&self.0.join("crates"), &self.0.join("made")).map_err(|it| it.to_string())
+        translate(&self.0.join("crates"), &self.0.join("made"), false).map_err(|it| it.to_string())
     }
 }
 
@@ -117,8 +117,8 @@ fn a_crate_that_is_not_there_is_named() {
 fn two_translations_are_the_same() {
     let crates = Path::new(env!("CARGO_MANIFEST_DIR")).join("../../../crates");
     let (one, other) = (Folder::new("one"), Folder::new("other"));
-    let made = translate(&crates, &one.made("")).unwrap();
-    assert_eq!(translate(&crates, &other.made("")), Ok(made));
+    let made = translate(&crates, &one.made(""), true).unwrap();
+    assert_eq!(translate(&crates, &other.made(""), true), Ok(made));
     let same = process::Command::new("diff").arg("-r").args([one.made(""), other.made("")]).status().unwrap();
     assert!(same.success() && made > 100);
 }

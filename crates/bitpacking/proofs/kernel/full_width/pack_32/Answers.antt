@@ -70,10 +70,10 @@ returns-clause-packed g c =
     record {
       same_reference = c.registers.invariant.same_reference;
       packed = record {
-        layout = Layout-from_lanes lanes 32 all (take (4 * lanes * 32) bytes)
+        layout = λ fits. Layout-from_lanes lanes 32 all (take (4 * lanes * 32) bytes)
             (AreBytes-take bytes (4 * lanes * 32) c.registers.invariant.are_bytes)
             g.met.R.Register.some_lanes (g.met.T.Transformer.codes_count c.args.start values ∙ c.requires.can.can.whole)
-            (simp length-take (omega (arith, c.registers.invariant.same_room, c.requires.can.can.room))) c.requires.can.can.fits
+            (simp length-take (omega (arith, c.registers.invariant.same_room, c.requires.can.can.room))) fits
             (λ lane lt. record {
               same =
                   joined-front lanes 32 bytes lane lt

@@ -3,6 +3,7 @@ use Rattle.std.proofs.Common.{List, ◌++◌, ◌≡◌, ℕ, ◌+◌, ◌-◌, 
 use Rattle.std.proofs.lemmas.List.{length-take}
 use Rattle.std.proofs.lemmas.Nat.{mul-add-lt, mul-le}
 use Rattle.bitpacking_register.specs.Words.{shifted_left, shifted_right}
+use Rattle.bitpacking.specs.Width.{Fits}
 use Rattle.bitpacking.proofs.LaneEquations.{lane_code, lane_word, Layout-from_lanes}
 use Rattle.bitpacking.proofs.PackedLane.{Packed-start, Packed-append, Packed-store, Packed-end, room_left, row_room}
 use Rattle.bitpacking.proofs.WordsOfParts.{row_after, row_at}
@@ -21,7 +22,7 @@ rows-init g c =
       offset = omega arith;
       filled = omega arith;
       codes = rw none (ap (λ f. f c.args.source.now.words.now) (sym c.after-transformer.ensures));
-      packed = λ lane lt.
+      packed = λ fits lane lt.
           rw (lane-splat 0 lanes (g.R.Register.words c.splat-pending.result) c.splat-pending.ensures lane lt)
           (Packed-start c.args.width (lane_word lanes c.args.target.now.bytes.now lane) (lane_code lanes all lane));
       are_bytes = c.requires.can.are_bytes;
@@ -66,8 +67,8 @@ rows-preserved g c =
     let next : drop (lanes * (i + 1)) all ≡ left = row_after lanes i all codes left (count c.transform-codes.result) given in
     let code : (lane : ℕ) → lane < lanes → lane_code lanes all lane i ≡ get_or codes lane 0 =
     λ lane lt. row_at lanes i all codes left lane (count c.transform-codes.result) given lt in
-    let small : (lane : ℕ) → lane < lanes → get_or codes lane 0 < 2 ^ width =
-    λ lane lt. rw (code lane lt) at (c.requires.can.can.fits (i * lanes + lane) 0
+    let small : Fits all width → (lane : ℕ) → lane < lanes → get_or codes lane 0 < 2 ^ width =
+    λ fits lane lt. rw (code lane lt) at (fits (i * lanes + lane) 0
     (omega (arith, (g.met.T.Transformer.codes_count c.args.start c.args.source.now.words.now ∙ c.requires.can.can.whole), mul-add-lt i lanes lane 32 c.rows-test.true lt))) in
     let word : (lane : ℕ) → lane < lanes
     → get_or (g.R.Register.words c.or-word.result) lane 0
@@ -85,10 +86,10 @@ rows-preserved g c =
         offset = omega arith;
         filled = omega arith;
         codes = next;
-        packed = λ lane lt. rw (word lane lt)
+        packed = λ fits lane lt. rw (word lane lt)
             (Packed-append width (lane_word lanes c.rows.target.bytes.now lane) (lane_code lanes all lane)
             i c.rows.stored c.rows.filled (get_or pending lane 0) (get_or codes lane 0)
-            (code lane lt) (small lane lt) c.rows.invariant.offset (omega arith) (c.rows.invariant.packed lane lt));
+            (code lane lt) (small fits lane lt) c.rows.invariant.offset (omega arith) (c.rows.invariant.packed fits lane lt));
         are_bytes = c.rows.invariant.are_bytes;
         rest = c.rows.invariant.rest;
         same_reference = c.rows.invariant.same_reference;
@@ -102,16 +103,16 @@ rows-preserved g c =
         offset = omega arith;
         filled = omega arith;
         codes = next;
-        packed = λ lane lt.
+        packed = λ fits lane lt.
             rw (lane-map (shifted_right (32 - c.rows.filled)) lanes codes (g.R.Register.words w.shift_right-pending.result)
             (count c.transform-codes.result) w.shift_right-pending.ensures lane lt)
             (Packed-store width (lane_word lanes c.rows.target.bytes.now lane) (lane_word lanes w.store.new.self.bytes.now lane)
             (lane_code lanes all lane) i c.rows.stored c.rows.filled (get_or pending lane 0) (get_or codes lane 0)
-            (code lane lt) (small lane lt) c.rows.invariant.offset w.if-filled-width-lt32.false (omega arith)
+            (code lane lt) (small fits lane lt) c.rows.invariant.offset w.if-filled-width-lt32.false (omega arith)
             (λ q h. w.store.ensures.before (lanes * q + lane)
             (omega (arith, mul-le lanes (q + 1) lanes c.rows.stored (omega arith) (omega arith))))
             (w.store.ensures.stored lane lt ∙ word lane lt)
-            (c.rows.invariant.packed lane lt));
+            (c.rows.invariant.packed fits lane lt));
         are_bytes = w.store.ensures.are_bytes;
         rest = rest_step (4 * lanes) c.rows.stored width w.store.new.self.bytes.now c.rows.target.bytes.now c.args.target.now.bytes.now
             (there w.if-filled-width-lt32.false) w.store.ensures.rest c.rows.invariant.rest;
@@ -135,16 +136,16 @@ returns-clause-packed g c =
     record {
       same_reference = c.rows.invariant.same_reference;
       packed = record {
-        layout = Layout-from_lanes lanes width all (take (4 * lanes * width) bytes)
+        layout = λ fits. Layout-from_lanes lanes width all (take (4 * lanes * width) bytes)
             (AreBytes-take bytes (4 * lanes * width) c.rows.invariant.are_bytes)
             g.met.R.Register.some_lanes (g.met.T.Transformer.codes_count c.args.start values ∙ c.requires.can.can.whole)
-            (simp length-take (omega (arith, c.rows.invariant.same_room, c.requires.can.can.room))) c.requires.can.can.fits
+            (simp length-take (omega (arith, c.rows.invariant.same_room, c.requires.can.can.room))) fits
             (λ lane lt. record {
               same =
                   joined-front lanes width bytes lane lt
                   ∙ Packed-end width (lane_word lanes bytes lane) (lane_code lanes all lane)
                   c.rows.i c.rows.stored c.rows.filled (get_or (g.R.Register.words c.rows.pending) lane 0)
-                  whole c.rows.invariant.offset c.rows.invariant.filled (c.rows.invariant.packed lane lt);
+                  whole c.rows.invariant.offset c.rows.invariant.filled (c.rows.invariant.packed fits lane lt);
             });
         rest = c.rows.invariant.rest;
         count = ap (λ n. 4 * n * c.args.width) c.LANES.ensures;

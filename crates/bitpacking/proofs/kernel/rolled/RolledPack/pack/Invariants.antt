@@ -1,6 +1,7 @@
--- In each lane the bits of the codes so far are those of the words stored and of the word pending.
+-- If the codes fit, the bits of those so far are in each lane those of the words stored and of the word pending.
 use Rattle.std.proofs.Common.{◌≡◌, ℕ, ◌+◌, ◌*◌, ◌<◌, ◌≤◌, max, length, drop, get_or}
 use Rattle.bitpacking.specs.Bits.{AreBytes}
+use Rattle.bitpacking.specs.Width.{Fits}
 use Rattle.bitpacking.proofs.LaneEquations.{lane_code, lane_word}
 use Rattle.bitpacking.proofs.PackedLane.{Packed}
 use Rattle.bitpacking.proofs.kernel.rolled.RolledPack.pack.Given as goal
@@ -11,7 +12,7 @@ invariant-rows g l = record {
   filled : l.filled < 32;
   codes : drop (g.R.Register.LANES * l.i) (g.T.Transformer.block_codes l.start l.source.words.now)
       ≡ g.T.Transformer.codes l.transformer (drop (g.R.Register.LANES * l.i) l.source.words.now);
-  packed : (lane : ℕ) → lane < g.R.Register.LANES
+  packed : Fits (g.T.Transformer.block_codes l.start l.source.words.now) l.width → (lane : ℕ) → lane < g.R.Register.LANES
       → Packed l.width (lane_word g.R.Register.LANES l.target.bytes.now lane)
       (lane_code g.R.Register.LANES (g.T.Transformer.block_codes l.start l.source.words.now) lane)
       l.i l.stored l.filled (get_or (g.R.Register.words l.pending) lane 0);

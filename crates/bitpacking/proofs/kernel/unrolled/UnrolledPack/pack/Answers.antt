@@ -16,14 +16,14 @@ returns-clause-packed g c =
       same_reference = c.pack_rows.ensures.same_reference ∙ c.pack_rows-pending-3.ensures.same_reference
           ∙ c.pack_rows-pending-2.ensures.same_reference ∙ c.pack_rows-pending.ensures.same_reference;
       packed = record {
-        layout = RowsPacked-done lanes width codes values (g.T.Transformer.codes c.pack_rows.new.transformer)
+        layout = λ fits. RowsPacked-done lanes width codes values (g.T.Transformer.codes c.pack_rows.new.transformer)
             c.pack_rows.new.target.bytes.now (g.R.Register.words c.pack_rows.result) g.met.R.Register.some_lanes
             (rw same_room c.requires.can.can.room)
             (c.pack_rows.ensures.packed codes (c.pack_rows-pending-3.ensures.packed codes
             (c.pack_rows-pending-2.ensures.packed codes (c.pack_rows-pending.ensures.packed codes
             (RowsPacked-start lanes width codes values (g.T.Transformer.codes c.after-transformer.result) c.args.target.now.bytes.now
             (g.R.Register.words c.splat-pending.result)
-            (g.met.T.Transformer.codes_count c.args.start values ∙ c.requires.can.can.whole) c.requires.can.can.fits c.requires.can.are_bytes
+            (g.met.T.Transformer.codes_count c.args.start values ∙ c.requires.can.can.whole) fits c.requires.can.are_bytes
             (ap (λ f. f values) (sym c.after-transformer.ensures)) c.splat-pending.ensures)))));
         rest = c.pack_rows.ensures.rest ∙ c.pack_rows-pending-3.ensures.rest
             ∙ c.pack_rows-pending-2.ensures.rest ∙ c.pack_rows-pending.ensures.rest;

@@ -1,0 +1,82 @@
+//! What is there twice: for any processor of the target, and as `crate::v3` for one of the level x86-64-v3, and what calls from the first copy into
+//! the second. `copies.rs` writes both.
+
+/// A file of a module, by its path in the folder of the crate.
+pub type File = (&'static str, &'static str);
+
+/// The modules that have a second copy. Lists are only read by tests, and the functions for C call the others.
+pub const COPIED: [&str; 6] = ["register", "bitpacking", "groups", "sets", "columns", "ranking"];
+
+/// The features of the level that the functions of the second copy have. `rust/src/level.rs` asks the processor for them.
+pub const FEATURES: &str = "avx2,bmi1,bmi2,lzcnt,popcnt";
+
+/// Types that both copies share. The file of the second copy names those of the first.
+pub const SHARED: [(File, &str); 9] = [
+    (("bitpacking", "kind.rt"), "Kind"),
+    (("groups", "group_error.rt"), "GroupError"),
+    (("sets", "operation.rt"), "Operation"),
+    (("sets", "set_error.rt"), "SetError"),
+    (("sets", "query_error.rt"), "QueryError"),
+    (("sets", "step.rt"), "Step"),
+    (("sets", "as_step.rt"), "AsStep"),
+    (("columns", "column_error.rt"), "ColumnError"),
+    (("columns", "column_kind.rt"), "ColumnKind"),
+];
+
+/// Types that each copy has, and whose values cross from one to the other: both have the layout of C.
+pub const CROSSING: [(File, &str); 11] = [
+    (("bitpacking", "bitpacker8x.rt"), "BitPacker8x"),
+    (("bitpacking", "instruction_set.rt"), "InstructionSet"),
+    (("bitpacking", "memory.rt"), "Steps"),
+    (("sets", "id_set.rt"), "IdSet"),
+    (("sets", "opening.rt"), "Parts"),
+    (("sets", "query.rt"), "Query"),
+    (("sets", "query/walking.rt"), "Walk"),
+    (("columns", "column.rt"), "Column"),
+    (("columns", "column.rt"), "Parts"),
+    (("ranking", "parts.rt"), "Parts"),
+    (("ranking", "walk.rt"), "Walk"),
+];
+
+/// Functions of one file that go over to the second copy, and what names them there: a type, or a module.
+pub struct Entries {
+    pub file: File,
+    pub of: &'static str,
+    pub functions: &'static [&'static str],
+}
+
+const fn entries(file: File, of: &'static str, functions: &'static [&'static str]) -> Entries {
+    Entries { file, of, functions }
+}
+
+/// What the functions for Rust and for C call, if it reads or writes more than a few bytes. Blocks of 128 and of 32 values gain less than the choice
+/// costs.
+pub const ENTRIES: [Entries; 24] = [
+    entries(("bitpacking", "bitpacker8x.rt"), "BitPacker8x", &["pack_unmeasured", "unpack_counted", "width_counted"]),
+    entries(("sets", "opening.rt"), "opening", &["test_encoding"]),
+    entries(("sets", "combining.rt"), "combining", &["combine", "combine_to", "combine_count", "is_disjoint", "is_subset"]),
+    entries(("sets", "combining_all.rt"), "combining_all", &["combine_all_to", "combine_all_count"]),
+    entries(("sets", "combining_sets.rt"), "combining_sets", &["combine_set"]),
+    entries(("sets", "in_place.rt"), "in_place", &["retain", "remove", "add", "add_to", "retain_if"]),
+    entries(("sets", "encoding.rt"), "encoding", &["encode", "encode_to", "encoded_len"]),
+    entries(("sets", "appending.rt"), "appending", &["append", "append_to"]),
+    entries(("sets", "id_set.rt"), "IdSet", &["contains", "rank", "select", "seek", "append_to", "copy_to", "copy_range"]),
+    entries(("sets", "query.rt"), "Query", &["next_ids"]),
+    entries(("sets", "query.rt"), "query", &["query_to"]),
+    entries(("sets", "encoding/order.rt"), "encoding::order", &["first_unsorted", "test_pushed"]),
+    entries(("columns", "opening.rt"), "opening", &["test_column"]),
+    entries(("columns", "encoding.rt"), "encoding", &["encode", "encode_to", "encoded_len"]),
+    entries(("columns", "encoding/order.rt"), "encoding::order", &["test_pushed"]),
+    entries(("columns", "appending.rt"), "appending", &["append", "append_to"]),
+    entries(("columns", "appending/joining.rt"), "appending::joining", &["join", "join_to"]),
+    entries(("columns", "column/ranges.rt"), "Column", &["count_between", "positions_between"]),
+    entries(("columns", "column/copying.rt"), "Column", &["append_to", "copy_to", "copy_range"]),
+    entries(("columns", "column/search.rt"), "Column", &["seek"]),
+    entries(("columns", "column/getting.rt"), "Column", &["get", "gather"]),
+    entries(("columns", "column/blocks.rt"), "Column", &["read_block"]),
+    entries(("ranking", "ranking.rt"), "ranking", &["best"]),
+    entries(("ranking", "among.rt"), "among", &["best_among"]),
+];
+
+/// Functions that the first copy calls and that are always inlined there: in the second copy they are functions with its features.
+pub const CALLED: [(File, &str); 1] = [(("bitpacking", "kernel/least_width.rt"), "width")];
