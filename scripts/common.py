@@ -54,8 +54,13 @@ def missing(*tools):
     return [it for it in tools if not shutil.which(it)]
 
 
+# What leave_out said.
+LEFT_OUT = []
+
+
 def leave_out(part, why):
-    print(f"LEFT OUT: {part}, {why}")
+    LEFT_OUT.append(f"LEFT OUT: {part}, {why}\n")
+    print(LEFT_OUT[-1], end="")
 
 
 def left_out_without(part, *tools, others=()):

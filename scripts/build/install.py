@@ -7,15 +7,18 @@
     install.py PREFIX --remove                          takes away what it wrote there, with the folders that it made
 
 LEVEL is that of the archive: x86-64, x86-64-v2 or x86-64-v3; without it the archive for all levels is installed; for aarch64 LEVEL is
-aarch64-unknown-linux-gnu, and CC has to name a compiler for it. The archives are those that scripts/build/archives.py wrote; a bundle has
-them. If the variable DESTDIR is set, all is written below that folder, as packages want it, and names PREFIX alone.
+aarch64-unknown-linux-gnu, and CC has to name a compiler for it. A bundle has the archives, and installing them takes seconds. Elsewhere they are
+those of scripts/build/archives.py, which proves them first if it did not before: that takes nine minutes on four cores. If the variable DESTDIR
+is set, all is written below that folder, as packages want it, and names PREFIX alone.
 
-With `--from cargo` the library for x86-64 is compiled by cargo from the proved sources, without the prover's compiler, as it is after
-`archives.py --fast`: the last line says so, and lib/pkgconfig/bitpacking.pc, and the variable bitpacking_COMPILER of CMake.
+With `--from cargo`, and if there is no `rt` to prove them, the library for x86-64 is compiled by cargo from the proved sources, without the
+prover's compiler, as it is after `archives.py --fast`: that takes two minutes. The last line says so, and lib/pkgconfig/bitpacking.pc, and the
+variable bitpacking_COMPILER of CMake.
 
 The name of the shared library ends with the major version: programs need a new link after a change of that. A file that another program
 wrote is not replaced. The status is 0, 1 if it failed, or 2 if it was called wrongly.
 """
+import argparse
 import os
 import re
 import shutil
@@ -167,6 +170,14 @@ def remove(prefix):
     return f"removed what was installed under {root}"
 
 
+def is_by_cargo(asked):
+    """Whether cargo compiles the library: if that was asked for, or if there are no archives and no `rt` to prove them."""
+    is_unproved = not archives.are_given() and bool(missing("rt"))
+    if is_unproved and not asked:
+        print("there is no rt, which proves the library", flush=True)
+    return asked or is_unproved
+
+
 def archive_of(level, by_rustc):
     """The archive of a level, or of all levels, which cargo compiles or archives.py wrote."""
     levels = [*archives.LEVELS.values()] if by_rustc else [*archives.BUILDS]
@@ -177,26 +188,37 @@ def archive_of(level, by_rustc):
     if lacking:
         raise Failed(f"there is no {' and no '.join(lacking)}")
     if by_rustc:
+        print("cargo compiles the library from the proved sources: two minutes on four cores, or seconds if it did before", flush=True)
         return by_cargo.for_all() if level == "all" else by_cargo.archive(level)
     if not archives.are_given():
         archives.need()
     return f"{archives.OUT}/{archives.ALL}" if level == "all" else archives.archive(level)
 
 
+def asked():
+    """What the words of the call ask for. Wrong ones are named, and end the script with status 2."""
+    usage, more = __doc__.split("\n\n")[1], __doc__.split("\n\n", 2)[2]
+    how = {"formatter_class": argparse.RawDescriptionHelpFormatter, "allow_abbrev": False}
+    parser = argparse.ArgumentParser(usage=f"\n{usage}\n", epilog=more, **how)
+    parser.add_argument("PREFIX", type=os.path.abspath)
+    parser.add_argument("--level", metavar="LEVEL", default="all")
+    parser.add_argument("--from", choices=["cargo"])
+    parser.add_argument("--remove", action="store_true")
+    given = vars(parser.parse_args())
+    if given["remove"] and (given["from"] or given["level"] != "all"):
+        parser.error("--remove takes no other option")
+    return given
+
+
 def main():
-    given = sys.argv[1:]
-    prefix = os.path.abspath(given[0]) if given and not given[0].startswith("-") else None
-    options = dict(zip(given[1::2], given[2::2]))
-    right = len(given) == 1 + 2 * len(options) and options.keys() <= {"--level", "--from"} and options.get("--from") in (None, "cargo")
-    if not prefix or not (right or given[1:] == ["--remove"]):
-        print(__doc__.split("\n\n")[1], file=sys.stderr)
-        return 2
+    given = asked()
     try:
-        if given[1:] == ["--remove"]:
-            print(remove(prefix))
+        if given["remove"]:
+            print(remove(given["PREFIX"]))
         else:
-            archive = archive_of(options.get("--level", "all"), "--from" in options)
-            print(install(prefix, archive, "--from" in options or archives.are_fast()))
+            by_rustc = is_by_cargo(given["from"] == "cargo")
+            archive = archive_of(given["level"], by_rustc)
+            print(install(given["PREFIX"], archive, by_rustc or archives.are_fast()))
     except (OSError, Failed) as why:
         print(f"install.py: {why}", file=sys.stderr)
         return 1

@@ -26,6 +26,8 @@ EACH, MOST = 5 << 29, 8
 # others, such as may-abort, hides and main, and any that it does not know, which may say what is left out.
 SAID = {"functions", "axioms", "target", "cpu", "sum", "native"}
 SAID |= {"logic-built", "libraries-built", "statements", "incremental"}
+# A line that says what is proved.
+SAYS_PROVED = re.compile(r": proved$|^statements ")
 
 
 class Failed(Exception):
@@ -110,7 +112,7 @@ def called(crate, tell, *command):
     tell(crate, f"{crate}: {os.path.basename(command[0])} {command[1]}\n")
     with subprocess.Popen(command, cwd=f"{ROOT}/crates/{crate}", **how) as ran:
         for line in ran.stdout:
-            if not re.search(r": proved$|^statements ", line):
+            if not SAYS_PROVED.search(line):
                 said.append(line)
             if line.startswith("logic="):
                 verdicts.append(line)

@@ -1,11 +1,11 @@
 #!/usr/bin/env python3
 """Compiles and runs C programs over the archive for all levels of the processor and that of each level: those of examples/, whose output is
-worked by hand, calls.c, ranking.c and pages.c, and id_sets.c and columns.c over the tables of vectors/. They are C99 with every warning an error,
-run with little stack, and once more with the address sanitizer. calls.c is also C++11 and C++17. In qemu all run on aarch64, and those that
-read no table on an x86-64 of each level. The header has no warning of gcc or clang, from C99 to C23 and from C++11 to C++20, for 64 and 32
-bits.
+worked by hand, calls.c, ranking.c and pages.c, id_sets.c and columns.c over the tables of vectors/, and cases.c, random cases. They are C99 with
+every warning an error, run with little stack, and once more with the address sanitizer. calls.c is also C++11 and C++17. In qemu all run on
+aarch64, those that read no table on an x86-64 of each level, and three over the Rust crate on aarch64. The header has no warning of gcc or
+clang, from C99 to C23 and from C++11 to C++20, for 64 and 32 bits.
 
-A part that lacks a tool is left out, and named: Debian's qemu-user-static and gcc-aarch64-linux-gnu have what the other processors need.
+A part that lacks a tool is left out, and named.
 """
 import functools
 import re
@@ -20,6 +20,7 @@ from common import ROOT, leave_out, missing, run, source
 import archives
 from files import failed, printed
 import levels
+import machines
 
 STRICT = ["-Wall", "-Wextra", "-Werror", "-pedantic", f"-I{ROOT}/include"]
 C99 = ["cc", "-std=c99", *STRICT]
@@ -28,6 +29,7 @@ CALLS = "scripts/test/calls.c"
 ID_SETS = "scripts/test/id_sets.c"
 COLUMN_TABLES = "scripts/test/columns.c"
 RANKING = "scripts/test/ranking.c"
+RANDOM = "scripts/test/cases.c"
 PAGES = "scripts/test/pages.c"
 STACK = 256 << 10  # bytes; the sanitizer needs more
 SANITIZED = ["-fsanitize=address,undefined", "-fno-sanitize-recover=all"]
@@ -75,6 +77,7 @@ PROGRAMS = {
     ID_SETS: "360 sets, 2052 refusals, 102 pairs\n",
     COLUMN_TABLES: "727 columns, 2605 refusals\n",
     RANKING: "all calls\n",
+    RANDOM: "300 cases\n",
     PAGES: "all calls\n",
 }
 VECTORS = {ID_SETS: ["id_sets", "refused_id_sets", "combined_id_sets"], COLUMN_TABLES: ["columns", "refused_columns"]}
@@ -120,12 +123,22 @@ def on_other_processors():
                 library, runner = f"{archives.OUT}/{archives.ALL}", [levels.OTHERS, "-cpu", processor]
                 why = compiled_and_run(program, [*C99, "-static"], library, runner=runner, stderr=subprocess.DEVNULL)
                 yield f"{program} on {processor}", why
+    compiler = [CROSS, "-std=c99", "-static", *STRICT]
     if missing(CROSS, QEMU) or archives.are_fast():
         leave_out("the C programs on aarch64", f"since there is no {CROSS}, no {QEMU} or no proved archive")
     else:
         for program in PROGRAMS:
-            compiler = [CROSS, "-std=c99", "-static", *STRICT]
             yield f"{program} on aarch64", compiled_and_run(program, compiler, archives.archive(archives.ARM), runner=[QEMU])
+    # The Rust crate's own operations of NEON, which no proof is about.
+    machine = machines.MACHINES["aarch64"]
+    if why := machines.lack(machine):
+        leave_out("the C programs over the Rust crate on aarch64", why)
+    else:
+        folder = machines.built(machine, ROOT, f"{machines.OUT}/c", "--package", "bitpacking_c", PANIC="abort", **machines.QUICK)
+        library = [f"{folder}/libbitpacking.a", f"-Wl,--defsym={machines.by_cargo.UNWINDS}=0"]
+        for program in [CALLS, RANKING, RANDOM]:
+            why = compiled_and_run(program, compiler, *library, runner=[QEMU])
+            yield f"{program} over the Rust crate on aarch64", why
 
 
 def uses():

@@ -2,20 +2,24 @@
 """Tests that what decides can fail, with made-up results: `report`, by which a script ends; `judged` of scripts/check; `taken`, by which it
 takes a library that `rt ci` proved; `why_not` of scripts/mutate/unproved.py, over what a check printed; `not_refused`, by which scripts
 that read the sources try wrong changes; and `chosen` of scripts/mutate/record.py, if a source or an edit changed: all edits of the crates
-above it are tried then.
+above it are tried then; and `by_crate` of changed.py, by which `scripts/quick` chooses the functions that it proves; and packages.py, over a list
+of two packages that a machine has or has not.
 """
 import contextlib
 import importlib.machinery
 import importlib.util
 import io
+import os
 import sys
 import tempfile
 from unittest import mock
 
 sys.path.insert(1, f"{sys.path[0]}/..")
 import common
+import changed
 import changes
-from files import other, written
+from files import bytes_of, other, written
+import packages
 import proving
 import record
 import texts
@@ -151,8 +155,92 @@ def records():
         yield "a record of one crate more", record.known(), {"one": "1", "two": "3"}
 
 
+# A source of a crate, and by a part of one of its lines the functions that are proved when that line changed: those of
+# a trait by their module.
+SOURCE = """\
+pub(crate) const FEW: usize = 8;
+static MANY: [usize; 2] = [
+    FEW,
+    9,
+];
+struct Plan { at: usize }
+
+// FEW are none.
+fn none() { let few = 0; }
+
+fn by_clause(n: usize)
+    requires few { n < FEW }
+{
+}
+
+impl Plan {
+    fn start(&self) -> usize { self.at }
+}
+
+impl Wide for Plan {
+    const LANES: usize = 4;
+    fn lanes() -> usize { Self::LANES }
+}
+
+fn through() -> usize { MANY[0] }
+"""
+PROVED = {"FEW: usize": {"by_clause", "through"}, "9,": {"through"}, "at: usize": {"Plan::start", ""}, "LANES: usize": {""}}
+PROVED |= {"let few": {"none"}, "// FEW": set()}
+
+
+def functions():
+    """Each changed line as a name, the functions that are proved then, and those that have to be."""
+    path = "crates/it/src/plan.rt"
+    with mock.patch.object(texts, "CHANGED", {path: SOURCE}):
+        for text, right in PROVED.items():
+            number = SOURCE[: SOURCE.index(text)].count("\n") + 1
+            with mock.patch.object(changed, "lines", lambda at=number: {path: [range(at, at + 1)]}):
+                names = {f"plan::{it}".removesuffix("::") for it in right}
+                yield f"the functions after a change of {text}", changed.by_crate().get("it", set()), names
+
+
+# Prints what is installed, as dpkg-query does, and installs one package of those that apt-get is asked for, if it gets an update. It keeps the words.
+DPKG = "#!/bin/sh\ncat installed; echo other deinstall\n"
+APT = """#!/bin/sh
+shift 5
+echo "$*" >> asked
+[ "$1" = install ] || exit "$UPDATES"
+for it; do [ "$it" = none ] && exit 100; done
+[ "$UPDATES" = 0 ] || exit 100
+shift 3
+for it; do echo "$it installed" >> installed; done
+"""
+INSTALLED = "install --yes --no-install-recommends"
+
+
+def installing(user, updates, listed="quick\none  it\n\ncheck\nother  it\n"):
+    """What is asked of apt-get, and what lacks then."""
+    with tempfile.TemporaryDirectory(prefix="packages-") as top:
+        written(top, {"dpkg-query": DPKG, "apt-get": APT, "installed": "one installed\n", "asked": ""})
+        for name in "dpkg-query", "apt-get":
+            os.chmod(f"{top}/{name}", 0o755)
+        called = lambda *words, **more: common.run(*words, folder=top, **more)
+        env = {"PATH": f"{top}:/usr/bin:/bin", "UPDATES": str(updates)}
+        with mock.patch.multiple(packages, source=lambda _: listed, run=called), mock.patch.dict(os.environ, env):
+            with mock.patch.object(os, "geteuid", lambda: user), contextlib.redirect_stdout(io.StringIO()):
+                packages.install("check")
+            return bytes_of(f"{top}/asked").decode().splitlines(), packages.told("check"), packages.told("quick")
+
+
+def machines():
+    """Each machine as a name, what is asked of apt-get, and what has to be."""
+    lacks = f"As root: apt-get update && apt-get {INSTALLED} "
+    yield "a machine that lacks a package", installing(0, 0), (["update", f"{INSTALLED} other"], "", "")
+    yield "a user that is not root", installing(1, 0), ([], f"{lacks}other\n", "")
+    yield "a machine without a network", installing(0, 100), (["update", f"{INSTALLED} other"], f"{lacks}other\n", "")
+    asked = [f"{INSTALLED} {it}" for it in ("none other", "none", "other")]
+    found = installing(0, 0, "# The list.\n\nquick\none  it\nnone  no such package\n\ncheck\nother  it\n")
+    yield "a package that is not known", found, (["update", *asked], f"{lacks}none\n", f"{lacks}none\n")
+    yield "the packages of the list", [it in packages.needed("quick") for it in ("python3-numpy", "chromium")], [True, False]
+
+
 def checks():
-    for part in [reports, parts, libraries, edits, faults, records]:
+    for part in [reports, parts, libraries, edits, faults, records, functions, machines]:
         for name, found, right in part():
             yield name, other(found, right)
 

@@ -21,7 +21,6 @@ from files import written
 import python
 
 MODULES = ["distributed", *(it for it in python.MODULES if it not in ("hypothesis", "build"))]
-PACKAGES = "python3-distributed python3-numpy python3-pytest python3-setuptools python3-wheel python3-venv python3-dev"
 EXAMPLE = "examples/dask"
 # The tests over a cluster, and those without one.
 TESTS = ["../examples/dask/test_index.py", "../examples/dask/test_shards.py"]
@@ -86,5 +85,4 @@ def checks(interpreter):
 
 if __name__ == "__main__":
     interpreter, lack = python.chosen(tuple(MODULES))
-    without = [f"{' and no '.join(lack)}: apt-get install {PACKAGES}"] if lack else []
-    sys.exit(archives.reported("the index on many machines", lambda: checks(interpreter), "cc", "bash", others=without))
+    sys.exit(archives.reported("the index on many machines", lambda: checks(interpreter), "cc", "bash", others=lack))

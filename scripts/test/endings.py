@@ -18,7 +18,7 @@ from common import ROOT, report, run, source, version
 from files import bytes_of, other, written
 import proving
 
-SCRIPTS = ["scripts/build/program.py", "scripts/build/proving.py", "scripts/common.py"]
+SCRIPTS = ["scripts/build/prove.py", "scripts/build/proving.py", "scripts/common.py"]
 
 RT = """#!/bin/sh
 [ "$1" = version ] && echo "kit of the test"
@@ -104,7 +104,7 @@ def builds(copy):
     status, out, error = copy.run(FAILS="bitpack_main")
     in_order = [f"{crate} build" for crate in [*BELOW, "bitpack_main"]]
     yield "libraries are proved before the program, lowest first, and none that fails runs", (status, out, copy.called()), (3, "", in_order)
-    lines = [f"bitpack: proved {crate}, functions: 7" for crate in [*BELOW, "bitpack_main"]]
+    lines = [f"proved {crate}, functions: 7" for crate in [*BELOW, "bitpack_main"]]
     yield "it says how long it builds", re.match(r".*building.* minutes on four cores", error) is not None, True
     yield "and has a line for each crate", error.split("\n")[1 : len(lines) + 1], lines
     built = 0, "program:--other words\nsize\n", ""

@@ -3,7 +3,7 @@
 and AddressSanitizer, since indexes are unchecked. It begins with the bytes of vectors/, alone and in pairs. It needs
 
     cargo and rustc of a nightly toolchain    rustup toolchain install nightly
-    clang++ and libclang_rt.fuzzer            apt-get install clang
+    clang++ and libclang_rt.fuzzer            clang and libclang-rt-14-dev of Debian
 
 It installs nothing, and is left out for want of one. `--seconds` and a number is another time. The last line is 'N passed, M failed'.
 """

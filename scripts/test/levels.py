@@ -73,7 +73,7 @@ def checks():
         levels = ONE_OF_EACH | {f"Haswell,-{it}": level for features, level in without for it in features}
         runs += [(name, "as_it_is", [OTHERS, "-cpu", name], level, []) for name, level in levels.items()]
     else:
-        leave_out("the levels of other processors", f"since there is no {OTHERS} (Debian: qemu-user-static)")
+        leave_out("the levels of other processors", f"since there is no {OTHERS}")
     if in_qemu or best == 3:
         runner = [OTHERS, "-cpu", "Haswell"] if in_qemu else []
         runs += [(f"a system that saves the registers {it}", "by_the_test", runner, level, [it]) for it, level in BY_SAVED.items()]

@@ -2,21 +2,23 @@
 """Runs the Rust crate for other machines: the tests of its vectors of words (rust/src/simd/), and all of vectors/, on
 
     x86-64, x86-64-v2, x86-64-v3      SSE2, SSE4.1 and AVX2, on this machine
-    i686                              SSE2 and 32 bits, on this machine        gcc-i686-linux-gnu
-    aarch64                           NEON, in qemu                            gcc-aarch64-linux-gnu qemu-user-static
-    s390x                             arrays and big-endian, in qemu           gcc-s390x-linux-gnu qemu-user-static
-    wasm32, wasm32-simd128            arrays and SIMD128, 32 bits, in node     nodejs lld wasi-libc
+    i686                              SSE2 and 32 bits, on this machine
+    aarch64                           NEON, in qemu
+    s390x                             arrays and big-endian, in qemu
+    wasm32, wasm32-simd128            arrays and SIMD128, 32 bits, in node
 
-with these packages of Debian. For other targets it checks that the crate compiles without `std`. `machines.py NAME ..` runs these alone.
+with packages of scripts/packages.txt. For other targets it checks that the crate compiles without `std`. `machines.py NAME ..` runs these alone.
 
 A target needs the library of Rust: `rustup target add TARGET` brings it. Without it, the script builds one of source with Debian's packages
 rustc-web, cargo-web, libstd-rust-web-dev and rust-web-src, of bookworm-security. They may be installed, but not beside Debian's rustc or
 rustup. Or they are unpacked in a folder that BITPACKING_RUSTC_WEB names, and nothing is installed:
 
-    apt-get download rustc-web cargo-web libstd-rust-web-dev libstd-rust-web-1.96 rust-web-src libllvm22
+    apt-get download rustc-web cargo-web libstd-rust-web-dev libstd-rust-web-1.96 rust-web-src libllvm22 \\
+        libgit2-1.5 libhttp-parser2.9 libmbedcrypto7 libmbedtls14 libmbedx509-1 libssh2-1
     for it in *.deb; do dpkg -x "$it" FOLDER; done
 
-wasi-libc may be unpacked there too. A library takes about two minutes of a processor, and is built once, in out/machines/.
+That is 146 MB, and 870 MB unpacked. wasi-libc may be unpacked there too. A library takes about two minutes of a processor, and is built once, in
+out/machines/. With it scripts/test/c.py also runs C programs over the crate on aarch64.
 """
 import concurrent.futures
 import glob

@@ -29,6 +29,7 @@ import install
 import python
 import release
 import rust
+import unproved
 
 EXAMPLES = [it for it in c.PROGRAMS if it.startswith("examples/")]
 PROCESSOR = "x86_64"
@@ -38,6 +39,8 @@ INLINE = ["bitpacking_error_text"]
 NEEDS = {"memcpy", "memmove", "memset", "memcmp", "bcmp", "abort"}
 # The linker leaves out what is not called, by this flag of docs/C.md: the most bytes of a small program then.
 LEAVES_OUT, SMALL = "-Wl,--gc-sections", 200_000
+# What follows the first commands of docs/PYTHON.md.
+IN_PYTHON = f"python -c '{release.IN_PYTHON}'\n"
 # A program of CMake, over the shared library and the static one.
 BY_CMAKE = """cmake_minimum_required(VERSION 3.10)
 project(it C)
@@ -130,10 +133,36 @@ def shared_library(path):
     named = re.search(r"SONAME\s+(\S+)", run("objdump", "-p", path).stdout)
     wanted = f"libbitpacking.so.{version().split('.')[0]}"
     yield "the name that programs look for", None if named and named[1] == wanted == os.readlink(path) else f"it is {named}"
+    # Once a program has started, nothing can write the addresses of functions.
+    table = run("readelf", "--wide", "--dynamic", "--program-headers", path).stdout
+    lacking = [it for it in ("BIND_NOW", "GNU_RELRO") if it not in table]
+    yield "the hardening of the shared library", f"it lacks {' and '.join(lacking)}" if lacking else None
     library = ctypes.CDLL(path)
     library.bitpacking_error_text.restype = ctypes.c_char_p
     text = library.bitpacking_error_text(ctypes.c_ssize_t(-3))
     yield "a function that the header has inline, by its name", None if text == b"The buffer is too short." else f"it returned {text}"
+
+
+def without_rt():
+    """The variables of somebody who has no toolchain to prove with."""
+    return dict(os.environ, PATH=os.pathsep.join(it for it in os.environ["PATH"].split(os.pathsep) if not os.path.exists(f"{it}/rt")))
+
+
+def of_pages(folder):
+    """The first commands of pages in a clone, without `rt`: each page as a name and what is wrong, or None."""
+    interpreter, lack = python.chosen(("numpy", "setuptools", "wheel", "pip", "ensurepip"))
+    lacks = {"docs/C.md": missing("pkg-config"), "docs/PYTHON.md": lack}
+    ends = {"docs/C.md": c.PROGRAMS["examples/id_set.c"], "docs/PYTHON.md": f"{version()} 7 (3, 300)\n"}
+    python.Package(folder, interpreter)
+    for name in "scripts", "examples":
+        os.symlink(f"{ROOT}/{name}", f"{folder}/{name}")
+    env = without_rt() | {"PIP_NO_INDEX": "1", "PIP_NO_BUILD_ISOLATION": "0"}
+    for page in [
+        it for it in ends if not lacks[it] or leave_out(f"the first commands of {it}", f"since there is no {' and no '.join(lacks[it])}")
+    ]:
+        commands = re.search(r"(?:^    .*\n)+", source(page), re.M)[0].replace("python3", interpreter or "").replace("~", folder)
+        done = run("bash", "-e", "-c", f"{commands}{IN_PYTHON * (page == 'docs/PYTHON.md')}", folder=folder, env=env)
+        yield f"the first commands of {page}", failed(done) or (None if done.stdout.endswith(ends[page]) else done.stdout)
 
 
 def library_by_cargo(prefix):
@@ -145,9 +174,18 @@ def library_by_cargo(prefix):
     yield "the flag that leaves out", None if LEAVES_OUT in source("docs/C.md") else "docs/C.md does not name it"
     built = failed(run(*c.C99, "-O2", "-s", f"{ROOT}/examples/block.c", static, LEAVES_OUT, "-o", f"{prefix}.small"))
     yield "the size of a small program", built or (None if os.path.getsize(f"{prefix}.small") < SMALL else "it is too great")
-    for words, status in (["--from", "nowhere"], 2), (["--from", "cargo", "--level", archives.ARM], 1):
-        done = by_script(f"{prefix}.other", *words)
-        yield f"install.py {' '.join(words)}", other((done.returncode, os.path.exists(f"{prefix}.other")), (status, False))
+    for words, status, names in [
+        (["--from", "nowhere"], 2, "'nowhere'"),
+        (["--form", "cargo"], 2, "--form"),
+        (["--remove", "--from", "cargo"], 2, "--remove"),
+        (["--from", "cargo", "--level", archives.ARM], 1, archives.ARM),
+    ]:
+        done = by_script(*words, f"{prefix}.other")
+        wrong = other((done.returncode, os.path.exists(f"{prefix}.other")), (status, False))
+        yield f"install.py {' '.join(words)}", wrong or (None if names in done.stdout.splitlines()[-1] else done.stdout)
+    done = by_script("--level", "x86-64", f"{prefix}.cargo", env=without_rt())
+    said = re.search(rf"there is no rt.*\ncargo .* minutes .*\ninstalled version .*{install.BY_RUSTC}", done.stdout)
+    yield "install.py without rt", failed(done) or (None if said else done.stdout)
 
 
 def installed(folder, *words):
@@ -159,7 +197,7 @@ def installed(folder, *words):
     os.remove(f"{prefix}/share")
     before, done = listed(prefix), by_script(prefix, *words)
     said = f"installed version {version()}{by} under {prefix}: {install.HEADER} {static} "
-    yield "install.py", failed(done) or (None if done.stdout.startswith(said) else done.stdout)
+    yield "install.py", failed(done) or (None if done.stdout.splitlines()[-1].startswith(said) else done.stdout)
     yield from shared_library(f"{prefix}/{install.LINK}")
     yield from by_pkg_config(prefix, compiler)
     to_archive = ["cc", "-std=c99", "-static", f"-I{prefix}/include"], f"{prefix}/{static}"
@@ -215,11 +253,23 @@ def dead_links(top):
                 yield f"{os.path.relpath(page, top)} links {link}"
 
 
+def of_a_checkout(folder):
+    """The bytes of a bundle of the same files, from a checkout in a folder, at another time and with other modes."""
+    unproved.copied(folder)
+    for path in bundle.paths(PROCESSOR):
+        os.makedirs(os.path.dirname(f"{folder}/{path}"), exist_ok=True)
+        shutil.copyfile(f"{ROOT}/{path}", f"{folder}/{path}")
+        os.chmod(f"{folder}/{path}", os.stat(f"{folder}/{path}").st_mode & 0o700)
+        os.utime(f"{folder}/{path}", (0, 86400))
+    asked = f"import sys; sys.path[:0] = ['scripts', 'scripts/build']; import bundle; print(bundle.write('out', '{PROCESSOR}'))"
+    os.makedirs(f"{folder}/out")
+    return bytes_of(f"{folder}/{by_cargo.called(sys.executable, '-B', '-c', asked, folder=folder).strip()}")
+
+
 def unpacked(folder):
     """Each check of a bundle as a name and what is wrong, or None."""
-    os.makedirs(f"{folder}/again")
-    one, two = (bytes_of(bundle.write(it, PROCESSOR)) for it in (folder, f"{folder}/again"))
-    yield "two bundles", None if one == two else "they differ"
+    same = bytes_of(bundle.write(folder, PROCESSOR)) == of_a_checkout(f"{folder}/checkout")
+    yield "the bundles of two checkouts", None if same else "they differ"
     with tarfile.open(f"{folder}/{bundle.name_of(PROCESSOR)}.tar.gz") as file:
         file.extractall(folder)
     top = f"{folder}/{bundle.name_of(PROCESSOR)}"
@@ -258,8 +308,9 @@ def checks(parts, *words):
 
 def main():
     if "--cargo" in words("--cargo"):
-        return reported("the library for C by cargo", lambda: checks([installed], "--from", "cargo"), *by_cargo.TOOLS, "objdump")
-    return archives.reported("the installation and the bundle", lambda: checks([installed, unpacked, of_a_commit, releases]))
+        tools = [*by_cargo.TOOLS, "objdump", "readelf", "bash"]
+        return reported("the library for C by cargo", lambda: [*checks([installed], "--from", "cargo"), *checks([of_pages])], *tools)
+    return archives.reported("the installation and the bundle", lambda: checks([installed, unpacked, of_a_commit, releases]), "readelf")
 
 
 if __name__ == "__main__":

@@ -14,8 +14,7 @@ import bundle
 from files import bytes_of, failed, written
 
 PG_CONFIG = os.environ.get("PG_CONFIG") or "/usr/lib/postgresql/15/bin/pg_config"
-# The packages of Debian that have a server with extensions, and what they bring.
-PACKAGES = "postgresql-15 postgresql-client-15 postgresql-server-dev-15"
+# What a server with extensions has.
 NEEDED = ["bindir:postgres", "bindir:pgbench", "bindir:psql", "pkglibdir:postgres_fdw.so", "pgxs:", "includedir-server:postgres.h"]
 SETTINGS = {"listen_addresses": "", "jit": "off", "max_connections": "120", "shared_buffers": "64MB", "fsync": "off", "autovacuum": "off"}
 PATIENCE = 240
@@ -27,11 +26,11 @@ def config(name):
 
 
 def lacking():
-    """What is missing for a server with extensions, with the packages of Debian that have it."""
+    """What is missing for a server with extensions."""
     paths = [PG_CONFIG]
     if os.path.exists(PG_CONFIG):
         paths = [f"{config(name)}/{file}".rstrip("/") for name, file in (it.split(":") for it in NEEDED)]
-    return [f"{path} (Debian: apt install {PACKAGES})" for path in paths if not os.path.exists(path)]
+    return [it for it in paths if not os.path.exists(it)]
 
 
 def account():

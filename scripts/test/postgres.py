@@ -6,7 +6,7 @@ starts servers as a user that is not root, which listen on sockets alone, and
 - reads the tables of vectors/, makes the longest values, and runs the examples of the page;
 - runs the checks of pg_faults.py and pg_memory.py.
 
-It is left out without PostgreSQL 15 and its header files, and says how to install them.
+It is left out without PostgreSQL 15 and its header files.
 """
 import os
 import re

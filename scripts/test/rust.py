@@ -8,7 +8,8 @@
 - how many instructions some calls run: scripts/test/instructions.py;
 - that a build translates a source of a crate again after it changed, and that tests see wrong changes;
 - programs outside the repository: one that takes the crate from a git repository, and is built of what `cargo vendor` wrote; one that gets it
-  through another crate, which asks for 0.9 of crates.io, by `[patch.crates-io]`. Nothing is fetched: the folder of cargo is empty.
+  through another crate, which asks for 0.9 of crates.io, by `[patch.crates-io]`, also if its Cargo.lock has another 0.9.3. Nothing is fetched:
+  the folder of cargo is empty.
 """
 import functools
 import glob
@@ -19,7 +20,7 @@ import sys
 import tempfile
 
 sys.path.insert(1, f"{sys.path[0]}/..")
-from common import ROOT, leave_out, missing, reported, run, source
+from common import ROOT, leave_out, missing, reported, run, source, version
 import archives
 import by_cargo
 from files import bytes_of, changed, failed, other, printed, written
@@ -173,6 +174,26 @@ def through_another(folder, top):
     return ran(folder, EXAMPLES[PROGRAM])
 
 
+def locked(folder):
+    """A package whose Cargo.lock has 0.9.3 of crates.io, for which a crate in a folder stands in, and what cargo takes after the commands of
+    docs/RUST.md: each as a name and what is wrong, or None."""
+    asked = MANIFEST.format("it", 'bitpacking = "0.9"')
+    config = '[source.crates-io]\nreplace-with = "other"\n[source.other]\ndirectory = "other"\n'
+    written(folder, {"Cargo.toml": asked, "src/main.rs": "fn main() {}\n", ".cargo/config.toml": config})
+    manifest = MANIFEST.format("bitpacking", "").replace("0.0.0", "0.9.3")
+    checksum = f'{{"files": {{}}, "package": "{"0" * 64}"}}'
+    written(f"{folder}/other/bitpacking", {"Cargo.toml": manifest, "src/lib.rs": "", ".cargo-checksum.json": checksum})
+    yield "a Cargo.lock with 0.9.3", failed(called("generate-lockfile", "--offline", folder=folder))
+    first = lambda done: failed(done) or done.stdout.split("\n")[0]
+    found = first(called("tree", "--offline", "-i", "bitpacking", folder=folder))
+    yield "the 0.9.3 of the lock", other(found, "bitpacking v0.9.3")
+    written(folder, {"Cargo.toml": f'{asked}[patch.crates-io]\nbitpacking = {{ path = "{ROOT}" }}\n'})
+    commands = re.findall(r"^    cargo ((?:update|tree) .*)$", source("docs/RUST.md"), re.M)
+    done = [called(*command.split(), folder=folder, CARGO_NET_OFFLINE="true") for command in commands]
+    wrong = other(first(done[-1]), f"bitpacking v0.9.3+{version()} ({ROOT})") if len(done) == 2 else f"docs/RUST.md has {commands}"
+    yield "the crate in place of that of the lock", wrong
+
+
 def vendored(folder):
     """A program over a git repository of what git tracks here, as a name and what is wrong, or None."""
     unproved.copied(f"{folder}/tracked")
@@ -226,6 +247,7 @@ def checks():
         yield from vendored(f"{folder}/vendored")
         yield from changed_sources(f"{folder}/changed")
         yield "a crate that asks for 0.9 of crates.io", through_another(f"{folder}/through", ROOT)
+        yield from locked(f"{folder}/locked")
 
 
 if __name__ == "__main__":

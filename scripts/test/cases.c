@@ -1,0 +1,218 @@
+/* Random sets, columns and queries, whose answers are those of a scan: ids and values on both sides of 2^31, since vectors of words may be compared with
+   a sign. Small loops run both ways of a call, by single words and by vectors. Prints what is wrong, and last how many cases there were. */
+#include "bitpacking.h"
+#include "tables.h"
+
+enum { CASES = 300, SETS = 3, MOST = 1500, SPAN = 80000, CLASSES = 500, COUNTS = 4, BEST = 12 };
+enum { PARTS = COUNTS * BITPACKING_CLASSES };
+
+static uint32_t ids[SETS][MOST], lens[SETS], values[SETS][MOST], parts[PARTS];
+static uint8_t set_bytes[SETS][BITPACKING_SET_ROOM(MOST)], column_bytes[SETS][BITPACKING_COLUMN_ROOM(MOST)], classes[CLASSES];
+static bitpacking_set sets[SETS];
+static bitpacking_column columns[SETS];
+/* Ids are from here on; the sets that have each, as bits, and its position in each of these. */
+static uint32_t base;
+static uint8_t has[SPAN];
+static uint16_t place[SETS][SPAN];
+static uint32_t all[SETS * MOST], found[SETS * MOST];
+
+/* Draws the ids of a set: many close ones, few far ones, or a run in a part of the span. */
+static void draw_ids(size_t set)
+{
+    const uint32_t step = 1 + drawn(1 + drawn(drawn(2) ? 4 : 400)), most = drawn(4) == 0 ? drawn(140) : drawn(MOST);
+    uint32_t at = drawn(SPAN / 8), len = 0;
+
+    while (len < most && (at += 1 + drawn(step)) < SPAN) {
+        place[set][at] = (uint16_t)len;
+        ids[set][len++] = base + at;
+        has[at] |= (uint8_t)(1u << set);
+    }
+    lens[set] = len;
+}
+
+static void open_set(size_t set)
+{
+    const bitpacking_set empty = BITPACKING_SET_EMPTY;
+    const ptrdiff_t size = bitpacking_set_pack(ids[set], lens[set], set_bytes[set], sizeof set_bytes[set], NULL);
+
+    sets[set] = empty;
+    expect(size > 0 && bitpacking_set_open(set_bytes[set], (size_t)size, &sets[set]) == 0, "a set is not opened");
+    expect(bitpacking_set_unpack(&sets[set], found, MOST) == (ptrdiff_t)lens[set], "another number of ids");
+    expect(memcmp(found, ids[set], lens[set] * sizeof *found) == 0, "other ids");
+}
+
+/* The ids that a combination of all sets has, by the bits of the sets that have an id. */
+enum { IN_ALL, IN_ANY, IN_FIRST_ALONE, IN_AN_ODD_NUMBER };
+
+static size_t scan(int combination)
+{
+    const uint8_t every = (1u << SETS) - 1;
+    size_t at, len = 0;
+
+    for (at = 0; at < SPAN; at++) {
+        const uint8_t bits = has[at];
+        const int is[] = {bits == every, bits != 0, bits == 1, (bits ^ bits >> 1 ^ bits >> 2) & 1};
+
+        if (is[combination])
+            all[len++] = base + (uint32_t)at;
+    }
+    return len;
+}
+
+static void are(ptrdiff_t answer, size_t len, const char *what)
+{
+    expect(answer == (ptrdiff_t)len && memcmp(found, all, len * sizeof *all) == 0, what);
+}
+
+static void combines(void)
+{
+    static const uint32_t steps[] = {0, 1, BITPACKING_XOR, 2, BITPACKING_XOR};
+    uint64_t space[BITPACKING_QUERY_SPACE(2)], next = 0;
+    size_t len = scan(IN_ALL), position;
+
+    are(bitpacking_set_intersect(sets, SETS, found, SETS * MOST), len, "another AND");
+    expect(bitpacking_set_count_common(sets, SETS) == (ptrdiff_t)len, "another count of an AND");
+    len = scan(IN_ANY);
+    are(bitpacking_set_unite(sets, SETS, found, SETS * MOST), len, "another OR");
+    expect(bitpacking_set_count_any(sets, SETS) == (ptrdiff_t)len, "another count of an OR");
+    are(bitpacking_set_subtract(sets, SETS, found, SETS * MOST), scan(IN_FIRST_ALONE), "another NOT");
+    len = scan(IN_AN_ODD_NUMBER);
+    are(bitpacking_set_query(sets, SETS, steps, 5, space, BITPACKING_QUERY_SPACE(2), &next, found, SETS * MOST, &position), len, "another query");
+}
+
+/* Searches of the first set, from any id on. */
+static void searches(void)
+{
+    uint32_t below, id, target = base + drawn(SPAN);
+    size_t position;
+
+    for (below = 0; below < lens[0] && ids[0][below] < target; below++)
+        continue;
+    expect(bitpacking_set_rank(&sets[0], target) == below, "another rank");
+    expect(bitpacking_set_seek(&sets[0], target, &position, &id) == (below < lens[0]), "another end of a set");
+    expect(below == lens[0] || (position == below && id == ids[0][below]), "another id is found");
+    expect(bitpacking_set_contains(&sets[0], target) == (below < lens[0] && ids[0][below] == target), "another member");
+}
+
+/* A column of as many values as a set has ids: counts of at most `below`, or any numbers of so many bits. */
+static void open_column(size_t set, uint64_t below)
+{
+    const bitpacking_column empty = BITPACKING_COLUMN_EMPTY;
+    const uint32_t least = drawn((UINT64_C(1) << 32) + 1 - below);
+    uint32_t k;
+    ptrdiff_t size;
+
+    for (k = 0; k < lens[set]; k++)
+        values[set][k] = below <= COUNTS ? 1 + drawn(below) : least + drawn(below);
+    size = bitpacking_column_pack(BITPACKING_PLAIN, values[set], lens[set], column_bytes[set], sizeof column_bytes[set], NULL);
+    columns[set] = empty;
+    expect(size > 0 && bitpacking_column_open(column_bytes[set], (size_t)size, &columns[set]) == 0, "a column is not opened");
+}
+
+/* The positions of values between limits that are two of the values, or any. */
+static void looks_between(void)
+{
+    static size_t positions[MOST];
+    const uint32_t one = lens[0] && drawn(2) ? values[0][drawn(lens[0])] : drawn(UINT64_C(1) << 32);
+    const uint32_t other = lens[0] ? values[0][drawn(lens[0])] : 0, low = one < other ? one : other, high = one < other ? other : one;
+    size_t k, len = 0, right = 1, count = bitpacking_column_between(&columns[0], low, high, 0, positions, MOST);
+
+    for (k = 0; k < lens[0]; k++)
+        if (low <= values[0][k] && values[0][k] <= high)
+            right &= len < count && positions[len++] == k;
+    expect(right && len == count, "other positions");
+    expect(bitpacking_column_count_between(&columns[0], low, high) == len, "another count between");
+}
+
+/* What a word adds to a document: parts above 2^31 for the rarest lengths. */
+static void draw_parts(void)
+{
+    const uint32_t each = 1 + drawn(UINT32_MAX / COUNTS);
+    size_t k;
+
+    for (k = 0; k < PARTS; k++)
+        parts[k] = (uint32_t)(k / BITPACKING_CLASSES * (each - (uint64_t)each * (k % BITPACKING_CLASSES) / 300));
+    for (k = 0; k < CLASSES; k++)
+        classes[k] = (uint8_t)drawn(BITPACKING_CLASSES);
+}
+
+static bitpacking_scored scored(size_t at)
+{
+    bitpacking_scored it = {0, base + (uint32_t)at};
+    const uint8_t class_of = it.id < CLASSES ? classes[it.id] : 0;
+    size_t set;
+
+    for (set = 0; set < SETS; set++)
+        if (has[at] >> set & 1) {
+            const uint32_t count = values[set][place[set][at]];
+
+            it.score += parts[(count < COUNTS ? count : COUNTS - 1) * BITPACKING_CLASSES + class_of];
+        }
+    return it;
+}
+
+/* The best documents that have at least so many words, by a scan that keeps the best so far in order. */
+static size_t scan_best(size_t at_least, size_t room, bitpacking_scored *best)
+{
+    size_t at, k, len = 0;
+
+    for (at = 0; at < SPAN; at++) {
+        const size_t words = (has[at] & 1u) + (has[at] >> 1 & 1u) + (has[at] >> 2 & 1u);
+        bitpacking_scored it;
+
+        if (words == 0 || words < at_least)
+            continue;
+        it = scored(at);
+        for (k = len; k > 0 && best[k - 1].score < it.score; k--)
+            if (k < room)
+                best[k] = best[k - 1];
+        if (k < room)
+            best[k] = it;
+        len += len < room;
+    }
+    return len;
+}
+
+static void ranks(void)
+{
+    static bitpacking_walk walks[SETS];
+    static bitpacking_term terms[SETS];
+    const bitpacking_term empty = BITPACKING_TERM_EMPTY;
+    bitpacking_scored right[BEST], best[BEST];
+    const size_t at_least = drawn(SETS + 1), room = drawn(BEST + 1), len = scan_best(at_least, room, right);
+    size_t k;
+    ptrdiff_t count;
+
+    for (k = 0; k < SETS; k++) {
+        terms[k] = empty;
+        expect(bitpacking_term_start(&terms[k], &sets[k], &columns[k], parts, PARTS) == 0, "a term is not started");
+    }
+    count = bitpacking_best(terms, SETS, classes, CLASSES, at_least, walks, SETS, best, room);
+    expect(count == (ptrdiff_t)len, "another number of the best");
+    for (k = 0; k < len; k++)
+        expect(best[k].score == right[k].score && best[k].id == right[k].id, "others are the best");
+}
+
+int main(void)
+{
+    static const uint32_t bases[] = {0, UINT32_C(0x80000000) - SPAN / 4, UINT32_MAX - SPAN};
+    size_t number, set;
+
+    for (number = 0; number < CASES; number++) {
+        base = bases[number % 3];
+        memset(has, 0, sizeof has);
+        for (set = 0; set < SETS; set++) {
+            draw_ids(set);
+            open_set(set);
+            open_column(set, COUNTS);
+        }
+        combines();
+        searches();
+        draw_parts();
+        ranks();
+        open_column(0, UINT64_C(1) << drawn(33));
+        looks_between();
+    }
+    printf("%d cases\n", CASES);
+    return failed;
+}
