@@ -1,4 +1,5 @@
 //! One code of a block, read by its bits.
+//! FORMAT.md, "Layout".
 
 ghost use Rattle.std.specs.Prelude.{◌≡◌, ◌+◌, ◌*◌, ◌<◌, ◌≤◌, length, slice_index};
 ghost use Rattle.bitpacking.specs.Layout.{codes_of};

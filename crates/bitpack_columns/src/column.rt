@@ -1,4 +1,6 @@
 //! A column, read without unpacking all of it. It is zero-copy: it borrows its bytes.
+//!
+//! FORMAT.md, "Columns".
 
 mod bounds;
 mod copying;

@@ -1,4 +1,5 @@
 //! A column whose values come one after the other.
+//! FORMAT.md, "Columns".
 
 ghost use Rattle.std.specs.Prelude.{◌≡◌, ◌^◌, ◌≤◌, None, length, slice_index};
 ghost use Rattle.bitpack_columns.specs.Faults.{first_out};

@@ -1,4 +1,5 @@
 //! Why a column is refused.
+//! FORMAT.md, "Faults of a column".
 
 use crate::column_kind::ColumnKind;
 use std::error::Error;
@@ -12,7 +13,7 @@ pub enum ColumnError {
     Short,
     /// The first byte begins no column.
     BadVersion(u8),
-    /// These are more than 268,435,456 values.
+    /// There are more than 268,435,456 values.
     TooLong(usize),
     /// The width byte of this group is above 32.
     BadWidth(usize, u8),

@@ -1,4 +1,5 @@
 //! From values to bytes: the encoding of a column is planned, and then written.
+//! FORMAT.md, "Columns".
 
 ghost use Rattle.std.specs.Prelude.{◌≡◌, ◌+◌, ◌*◌, ◌^◌, ◌<◌, ◌≤◌, ◌++◌, ◌==◌, if◌then◌else◌, IfOk, OnOk, length, replicate, slice_index, take, vec_capacity, vec_len};
 ghost use Rattle.bitpack_columns.specs.Columns.{IsColumn, encoding, header_encoding, tail_encoding};

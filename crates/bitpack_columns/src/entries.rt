@@ -1,4 +1,10 @@
 //! The ends, the marks and the bodies of the blocks of a column, by what is after its count and its first value.
+//!
+//! FORMAT.md, "Columns", after `first`:
+//!
+//! ```text
+//! e + 16 * z | B ends of e bytes | B marks of z bytes | B bodies | least | groups
+//! ```
 
 ghost use Rattle.std.specs.Prelude.{◌≡◌, ◌+◌, ◌*◌, ◌^◌, ◌<◌, ◌≤◌, length};
 ghost use Rattle.bitpack_columns.specs.Reads;

@@ -1,4 +1,10 @@
 //! Tests the encoding of a column. The bytes are untrusted.
+//!
+//! FORMAT.md, "Columns" and "Faults of a column":
+//!
+//! ```text
+//! 64 + 32 * s + min(n, 31) | n | first | sizes | ends | marks | bodies | least | groups
+//! ```
 
 ghost use Rattle.std.specs.Prelude.{◌≡◌, true, false, ◌≤◌, ◌^◌, if◌then◌else◌, IfOk, None, drop, length, nat_lt};
 ghost use Rattle.bitpack_columns.specs.declared.column_kind.ColumnKind.TheVariants.{Plain, Sorted};

@@ -1,4 +1,10 @@
 //! The values that are left after the whole blocks.
+//!
+//! FORMAT.md, "Columns", after the bodies:
+//!
+//! ```text
+//! least, a varint, if plain | groups of codes
+//! ```
 
 ghost use Rattle.std.specs.Prelude.{◌≡◌, ℕ, ◌+◌, ◌-◌, ◌*◌, ◌^◌, ◌<◌, ◌≤◌, ◌++◌, None, length, replicate, take};
 ghost use Rattle.bitpack_columns.specs.Columns;
@@ -22,7 +28,7 @@ pub(crate) fn left_out(kind: ColumnKind, blocks: usize, count: usize) -> usize
     }
 }
 
-/// Makes values of their codes.
+/// Replaces codes by the values that they stand for.
 #[inline(always)]
 pub(crate) fn to_values(kind: ColumnKind, base: u32, codes: &mut [u32])
     ensures { codes.new ≡ values_of kind base codes.old }

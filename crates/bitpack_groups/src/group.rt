@@ -1,4 +1,10 @@
 //! Groups of 1 to 32 codes: a width, and the first bytes of a block of one lane that holds the codes and then zeros.
+//!
+//! FORMAT.md, "Groups":
+//!
+//! ```text
+//! the least width b, a byte | (k * b + 7) / 8 bytes: k codes of b bits, end to end
+//! ```
 
 ghost use Rattle.std.specs.Prelude.{◌≡◌, true, ℕ, List, ◌+◌, ◌*◌, ◌/◌, ◌^◌, ◌<◌, ◌≤◌, ◌∷◌, IfOk, OnOk, drop, length, slice_index, take};
 ghost use Rattle.bitpacking.specs.Bits.{AreBytes};

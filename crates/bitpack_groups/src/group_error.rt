@@ -1,4 +1,5 @@
 //! Why bytes are no number, or no group.
+//! FORMAT.md, "Varints" and "Groups".
 
 use std::error::Error;
 use std::fmt;

@@ -1,4 +1,5 @@
 //! Codes in groups of 32, the last of 1 to 32.
+//! FORMAT.md, "Groups".
 
 ghost use Rattle.std.specs.Prelude.{◌≡◌, ◌+◌, ◌*◌, ◌^◌, ◌≤◌, ℕ, List, IfOk, OnOk, None, length, min, take};
 ghost use Rattle.bitpack_groups.specs.Faults.{FindsFault};

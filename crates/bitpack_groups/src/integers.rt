@@ -1,4 +1,5 @@
 //! Integers of one to four bytes, the lowest first.
+//! FORMAT.md, "Sizes": the entries of a table.
 
 ghost use Rattle.std.specs.Prelude.{◌≡◌, ◌+◌, ◌*◌, ◌≤◌, ◌++◌, drop, length, take};
 ghost use Rattle.bitpack_groups.specs.Numbers.{short_at};

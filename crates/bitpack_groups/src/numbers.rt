@@ -1,4 +1,5 @@
 //! Numbers of one to five bytes: seven bits a byte, the lowest first, with 128 added to every byte but the last.
+//! FORMAT.md, "Varints".
 
 ghost use Rattle.std.specs.Prelude.{◌≡◌, ◌^◌, ◌≤◌, ℕ, IfOk, None, length, take};
 ghost use Rattle.bitpack_groups.specs.Faults.{FindsFault};

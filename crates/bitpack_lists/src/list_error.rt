@@ -17,7 +17,7 @@ pub enum ListError {
     BadKind(u8),
     /// The list was packed in this many lanes, and not in the packer's.
     WrongLanes(u8),
-    /// These are more than 268,435,456 values.
+    /// There are more than 268,435,456 values.
     TooLong(usize),
     /// The width byte of this block is above 32.
     BadWidth(usize, u8),

@@ -11,7 +11,7 @@ use bitpack_sets::IdSet;
 
 /// A word of a query, or what has one: the set of its documents, how often each has it, and what this adds to scores.
 pub trait AsTerm {
-    // Its documents, its counts there, and its table.
+    // The documents of the word, its counts there, and its table.
     ghost its_word: { Self → Word };
 
     /// The set of the documents that have the word.

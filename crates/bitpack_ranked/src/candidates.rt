@@ -22,7 +22,7 @@ pub(crate) struct Candidates {
 }
 
 impl Candidates {
-    /// Retains those that can be among the best if the words that are left add at most `rest`.
+    /// Retains the documents that can be among the best if the words that are left add at most `rest`.
     pub(crate) fn retain_best(&mut self, rest: u64, found: &[Scored], len: usize)
         requires short { self.old.len ≤ 128 }
         requires small { (k : ℕ) → k < self.old.len → slice_index self.old.scores k + rest < 2 ^ 64 }
@@ -44,7 +44,7 @@ impl Candidates {
         self.len = retain(&mut self.ids, &mut self.scores, self.len, &marks);
     }
 
-    /// Retains those whose scores, by these bounds, can be among the best.
+    /// Retains the documents whose scores, by these bounds, can be among the best.
     pub(crate) fn retain_bounded(&mut self, bounds: &[u64], found: &[Scored], len: usize)
         requires short { self.old.len ≤ 128 }
         requires room { self.old.len ≤ length bounds.now }
@@ -57,7 +57,7 @@ impl Candidates {
         self.len = retain(&mut self.ids, &mut self.scores, self.len, &marks);
     }
 
-    /// Retains those that have at least as many words, by the number of each.
+    /// Retains the documents that have at least `at_least` words. `words` has the number of words of each.
     pub(crate) fn retain_with(&mut self, words: &[usize], at_least: usize)
         requires short { self.old.len ≤ 128 }
         requires room { self.old.len ≤ length words.now }
@@ -70,7 +70,7 @@ impl Candidates {
         self.len = retain(&mut self.ids, &mut self.scores, self.len, &marks);
     }
 
-    /// Adds up their scores, and puts those among the best that have none of the words before.
+    /// Adds up the scores of the documents, and puts the documents that have none of the words before among the best.
     pub(crate) fn rank<T: AsTerm>(
         &mut self,
         before: &[T],
@@ -95,7 +95,7 @@ impl Candidates {
         self.select(before, found, len)
     }
 
-    /// Adds what words add to their scores. Those that cannot be among the best are left out.
+    /// Adds what words add to the scores of the documents. A document that cannot be among the best is left out.
     fn add<T: AsTerm>(&mut self, left: &[T], classes: &[u8], found: &[Scored], len: usize)
         requires few { length left.now ≤ 2 ^ 31 }
         requires short { self.old.len ≤ 128 }
@@ -117,7 +117,7 @@ impl Candidates {
         }
     }
 
-    /// Puts those among the best that have none of the words before.
+    /// Puts the documents that have none of the words before among the best.
     fn select<T: AsTerm>(&self, before: &[T], found: &mut [Scored], len: usize) -> usize
         requires few { length before.now ≤ 2 ^ 31 }
         requires short { self.now.len ≤ 128 }

@@ -8,7 +8,7 @@ ghost use Rattle.bitpack_ranked.specs.inner.Selecting.{ImpliesFull, IsPositionFo
 #[repr(C)]
 #[derive(Clone, Copy, PartialEq, Eq, Debug)]
 pub struct Scored {
-    /// What its words add up to.
+    /// What the words of the document add up to.
     pub score: u64,
     /// The id of the document.
     pub id: u32,

@@ -1,4 +1,5 @@
 //! The ids of a set and more ids after them, written as one set.
+//! FORMAT.md, "Id sets".
 
 ghost use Rattle.std.specs.Prelude.{◌≡◌, ◌+◌, ◌-◌, ◌*◌, ◌^◌, ◌≤◌, ◌<◌, ◌++◌, [], Err, IfErr, IfOk, MatchOption, OnErr, OnOk, drop, length, take, vec_capacity, vec_len};
 ghost use Rattle.std.specs.List.{concat};

@@ -1,4 +1,10 @@
 //! Sets whose ids lie far apart: an array of four bytes for each.
+//!
+//! FORMAT.md, "Id sets":
+//!
+//! ```text
+//! 6 | n, a varint | n ids of four bytes, increasing
+//! ```
 
 ghost use Rattle.std.specs.Prelude.{◌≡◌, ◌≢◌, ◌+◌, ◌*◌, ◌/◌, ◌^◌, ◌<◌, ◌≤◌, length, slice_index};
 ghost use Rattle.bitpack_sets.specs.Errors.{Finds};

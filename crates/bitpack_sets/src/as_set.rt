@@ -7,7 +7,7 @@ use crate::id_set::IdSet;
 
 /// A set, or what has one: what is combined with others.
 pub trait AsSet {
-    // Its ids.
+    // The ids of the set.
     ghost its_ids: { Self → List ℕ };
 
     /// The set. Reads none of its bytes.

@@ -1,4 +1,10 @@
 //! Bodies of blocks, whose slices are found by their high bytes.
+//!
+//! FORMAT.md, "Chunks":
+//!
+//! ```text
+//! r - 1 | slice of the r high bytes that occur | r counts, each less 1 | r slices of low bytes
+//! ```
 
 pub(crate) mod combining;
 

@@ -1,4 +1,5 @@
 //! The ids of a key in a set: a list of them, or a body of blocks.
+//! FORMAT.md, "Chunks".
 
 pub(crate) mod mixing;
 
@@ -20,9 +21,9 @@ use crate::operation::Operation;
 /// The ids of a key.
 #[derive(Clone, Copy)]
 pub(crate) enum Body<'a> {
-    /// A list of them.
+    /// The ids, as a list.
     Ids(Listed<'a>),
-    /// Blocks of their low 16 bits.
+    /// The low 16 bits of the ids, as blocks.
     Blocks(&'a [u8]),
 }
 
@@ -48,7 +49,7 @@ pub(crate) fn combine(
     }
 }
 
-/// Writes them for a list and a body.
+/// Writes the ids that an operation on a list and a body gives, as `combine`.
 fn combine_list(
     operation: Operation,
     key: u32,
@@ -74,7 +75,7 @@ fn combine_list(
     }
 }
 
-/// Writes them for blocks and a body.
+/// Writes the ids that an operation on blocks and a body gives, as `combine`.
 fn combine_blocks(
     operation: Operation,
     key: u32,
@@ -98,7 +99,7 @@ fn combine_blocks(
     }
 }
 
-/// Writes them for two bodies of blocks.
+/// Writes the ids that an operation on two bodies of blocks gives, as `combine`.
 // Not inlined: with this code in it, a caller takes longer to look up the ids of a list.
 #[inline(never)]
 fn combine_slices(

@@ -1,4 +1,5 @@
 //! The chunks of a set of any form: a chunk is the ids that share their high 16 bits, its key.
+//! FORMAT.md, "Id sets" and "Chunks".
 
 ghost use Rattle.std.specs.Prelude.{◌≡◌, ◌≢◌, ◌^◌, ◌≤◌};
 ghost use Rattle.std.proofs.Props.{props};

@@ -129,7 +129,7 @@ fn write(operation: Operation, a: &IdSet, b: &IdSet, out: &mut [u32]) -> usize
     write_chunks(Pair::new(operation, x, y), out)
 }
 
-/// Writes them chunk by chunk.
+/// Writes the ids that an operation on two sets gives, chunk by chunk, if there is room for all. Returns their number.
 fn write_chunks(mut pair: Pair, out: &mut [u32]) -> usize
     ensures { Follow (those (2 ^ 32) (left pair.entry)) out.old out.new 0 result }
 {

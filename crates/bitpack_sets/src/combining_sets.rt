@@ -1,4 +1,5 @@
 //! Combines two sets into one.
+//! FORMAT.md, "Id sets".
 
 ghost use Rattle.std.specs.Prelude.{length, vec_capacity};
 ghost use Rattle.bitpack_sets.specs.Opened.{ids};

@@ -1,4 +1,5 @@
 //! Unpacks the ids of sets in chunks.
+//! FORMAT.md, "Chunks".
 
 ghost use Rattle.std.specs.Prelude.{◌≡◌, ◌+◌, ◌*◌, ◌^◌, ◌<◌, ◌≤◌, ◌++◌, drop, length, map, take};
 ghost use Rattle.bitpack_sets.specs.Directory.{body_at, body_numbers_of, chunk_ids, count_at};

@@ -1,4 +1,10 @@
 //! The directory of a set in chunks: keys, ends and sums.
+//!
+//! FORMAT.md, "Chunks", after n and C:
+//!
+//! ```text
+//! e + 16 * z | C keys of two bytes | C ends of e bytes | C sums of z bytes | C bodies
+//! ```
 
 ghost use Rattle.std.specs.Prelude.{◌≡◌, ◌+◌, ◌*◌, ◌/◌, ◌%◌, ◌^◌, ◌<◌, ◌≤◌, ◌&&◌, ◌||◌, ◌==◌, not, nat_le, nat_lt, drop, length};
 ghost use Rattle.bitpack_sets.specs.Directory.{before};

@@ -1,4 +1,5 @@
 //! From ids to bytes: the encoding of a set is measured, and then written.
+//! FORMAT.md, "Id sets".
 
 ghost use Rattle.std.specs.Prelude.{◌≡◌, ◌+◌, ◌≤◌, ◌++◌, length, replicate, vec_len, vec_capacity};
 ghost use Rattle.bitpack_sets.specs.Sets.{IsSet, encoding};

@@ -1,4 +1,10 @@
 //! Sets of fewer than 128 ids: the first id as a number, and groups of the differences of the others.
+//!
+//! FORMAT.md, "Fewer than 128 ids":
+//!
+//! ```text
+//! 128 + n | first, a varint | groups of n - 1 codes: an id less the one before it, less 1
+//! ```
 
 ghost use Rattle.std.specs.Prelude.{◌≡◌, ℕ, ◌+◌, ◌*◌, ◌^◌, ◌<◌, ◌≤◌, IfOk, OnOk, length, None, Option, drop, slice_index, take};
 ghost use Rattle.bitpack_sets.specs.Reads.{few_ids, has, rank};

@@ -13,11 +13,11 @@ use crate::listed::filtering::is_member;
 /// The ids of a key.
 #[derive(Clone, Copy)]
 pub(crate) enum Own<'a> {
-    /// Those between two positions.
+    /// The ids between two positions.
     Between(usize, usize),
-    /// Those of a body whose slices were found.
+    /// The ids of a body whose slices were found.
     Blocks(Blocks<'a>),
-    /// Those whose bit is 1.
+    /// The ids whose bit is 1.
     Bits(&'a [u64; 1024]),
 }
 

@@ -1,4 +1,6 @@
 //! An id set, read without decoding all of it. It is zero-copy: it borrows its bytes.
+//!
+//! FORMAT.md, "Id sets": byte 0 is 128 + n below 128 ids, 6 in an array, and 5 in chunks.
 
 ghost use Rattle.std.specs.Prelude.{◌≡◌, ◌≤◌};
 ghost use Rattle.bitpacking.specs.Bits.{AreBytes};

@@ -133,7 +133,7 @@ fn count_many(values: &[u32], index: usize, count: usize, set: &Chunks) -> (usiz
     count_run(values, index, count, set, own)
 }
 
-/// Counts them as they are found.
+/// Counts ids that share the key of the one at an index, as `count_many`, and looks each up in the body of the key.
 fn count_few(values: &[u32], index: usize, count: usize, set: &Chunks) -> (usize, usize)
     requires within { index < length values.now }
     requires few { count ≤ index }
@@ -143,7 +143,7 @@ fn count_few(values: &[u32], index: usize, count: usize, set: &Chunks) -> (usize
     count_run(values, index, count, set, Own::Between(position, end))
 }
 
-/// Counts them, when the ids of the key are found.
+/// Counts ids that share the key of the one at an index, as `count_many`, when the set's ids of this key are found.
 #[inline(always)]
 fn count_run(values: &[u32], index: usize, count: usize, set: &Chunks, own: Own) -> (usize, usize)
     requires within { index < length values.now }
@@ -260,7 +260,8 @@ fn retain_many(
     retain_run(values, index, retained, set, own, there)
 }
 
-/// Moves them, and looks each up in the body of the key. If these are many, it finds the slices of the body before.
+/// Moves ids that share the key of the one at an index, as `retain_many`, and looks each up in the body of the key. If there are many ids, it
+/// finds the slices of the body first.
 fn retain_few(
     values: &mut [u32],
     index: usize,
@@ -291,7 +292,7 @@ fn retain_few(
     )
 }
 
-/// Moves them, when the ids of the key are found.
+/// Moves ids that share the key of the one at an index, as `retain_many`, when the set's ids of this key are found.
 #[inline(always)]
 fn retain_run(
     values: &mut [u32],

@@ -1,4 +1,5 @@
 //! Ids that are listed in increasing order: integers of two or four bytes.
+//! FORMAT.md, "Chunks" (numbers) and "Id sets" (an array).
 
 pub(crate) mod filtering;
 pub(crate) mod merging;

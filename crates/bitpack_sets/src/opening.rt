@@ -1,4 +1,12 @@
 //! Tests the encoding of a set.
+//!
+//! FORMAT.md, "Id sets" and "Faults of a set":
+//!
+//! ```text
+//! few         128 + n | first | groups
+//! an array    6 | n | n ids of four bytes
+//! chunks      5 | n | C | sizes | keys | ends | sums | bodies
+//! ```
 
 ghost use Rattle.std.specs.Prelude.{◌≡◌, ◌≤◌, ◌<◌, ◌^◌, ◌*◌, IfOk, None, drop, length};
 ghost use Rattle.bitpack_sets.specs.Errors.{Finds};
@@ -29,7 +37,7 @@ pub struct Parts<'a> {
     pub count: usize,
     /// How many chunks there are, of a set in chunks.
     pub chunks: usize,
-    /// The bytes after these counts.
+    /// The bytes after the counts.
     pub rest: &'a [u8],
 }
 

@@ -7,13 +7,13 @@ ghost use Rattle.bitpack_sets.specs.Bitmaps.{has_bit};
 /// Which ids of two sets the answer has.
 #[derive(Clone, Copy)]
 pub enum Operation {
-    /// Those in both.
+    /// The ids that both sets have.
     And,
-    /// Those in one or both.
+    /// The ids that at least one set has.
     Or,
-    /// Those only in the first.
+    /// The ids that only the first set has.
     AndNot,
-    /// Those in one of the two, and not in both.
+    /// The ids that exactly one of the two sets has.
     Xor,
 }
 

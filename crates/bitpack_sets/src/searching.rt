@@ -1,4 +1,5 @@
 //! Looks ids up in sets in chunks.
+//! FORMAT.md, "Chunks".
 
 ghost use Rattle.std.specs.Prelude.{◌≡◌, ◌+◌, ◌*◌, ◌/◌, ◌%◌, ◌^◌, ◌<◌, ◌≤◌, length, slice_index};
 ghost use Rattle.bitpack_sets.specs.Directory.{before, body_at, body_numbers_of, chunk_ids, count_at};

@@ -1,4 +1,5 @@
 //! A set whose ids come one after the other.
+//! FORMAT.md, "Id sets".
 
 ghost use Rattle.std.proofs.Props.{props};
 ghost use Rattle.bitpack_sets.specs.Props.{rising_prop};

@@ -1,4 +1,5 @@
 //! Why a set is refused.
+//! FORMAT.md, "Faults of a set".
 
 use std::error::Error;
 use std::fmt;
@@ -10,7 +11,7 @@ pub enum SetError {
     Short,
     /// The first byte begins no set.
     BadVersion(u8),
-    /// These are more than 268,435,456 ids.
+    /// There are more than 268,435,456 ids.
     TooLong(usize),
     /// The width byte of this group is above 32.
     BadWidth(usize, u8),

@@ -1,4 +1,12 @@
 //! Slices: some of the numbers 0 to 255, as bytes.
+//!
+//! FORMAT.md, "Chunks":
+//!
+//! ```text
+//! c below 32     c bytes, increasing
+//! c below 256    32 bytes: bit i is 1 if the slice has i
+//! c = 256        no byte
+//! ```
 
 pub(crate) mod matches;
 pub(crate) mod positions;
@@ -47,7 +55,7 @@ impl<'a> Slice<'a> {
     ghost use Rattle.bitpack_sets.specs.Reads.{has};
     ghost use Rattle.bitpack_sets.specs.Selections.{bytes_of, numbers_at};
 
-    /// Its bytes.
+    /// The bytes of the slice.
     #[inline(always)]
     fn bytes(self) -> &'a [u8]
         ensures { result.now ≡ bytes_of self.entry }
@@ -55,7 +63,7 @@ impl<'a> Slice<'a> {
         &self.slices[self.start..self.start + byte_len(self.count)]
     }
 
-    /// Its numbers, as bits.
+    /// The numbers of the slice, as bits.
     #[inline(always)]
     pub(crate) fn bits(self) -> [u64; 4]
         ensures { (i : ℕ) → i < 256 → has_bit result i ≡ has i (numbers_at self.entry) }
@@ -63,7 +71,7 @@ impl<'a> Slice<'a> {
         slice_bits(self.count, self.bytes())
     }
 
-    /// Writes its numbers, each with `base` added. Returns the index after the last. Up to 31 items from there on may change too.
+    /// Writes the numbers of the slice, each with `base` added. Returns the index after the last. Up to 31 items from there on may change too.
     #[inline(always)]
     pub(crate) fn unpack(self, base: u32, out: &mut [u32], at: usize) -> usize
         requires fits { base + 256 ≤ 2 ^ 32 }

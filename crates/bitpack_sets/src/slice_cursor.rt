@@ -1,4 +1,5 @@
 //! A cursor over the slices of a set: the ids that share their high 24 bits.
+//! FORMAT.md, "Id sets" and "Chunks".
 
 ghost use Rattle.std.specs.Prelude.{◌≡◌, ℕ, ◌+◌, ◌*◌, ◌<◌, drop};
 ghost use Rattle.bitpack_sets.specs.Bitmaps.{has_bit};

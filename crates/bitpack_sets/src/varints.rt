@@ -1,4 +1,5 @@
 //! Numbers of seven bits a byte and groups of codes. Their faults are returned as faults of sets.
+//! FORMAT.md, "Varints" and "Groups".
 
 ghost use Rattle.std.specs.Prelude.{◌≡◌, ◌≤◌, IfOk, OnOk, length, slice_index, take};
 ghost use Rattle.bitpack_groups.specs.Groups.{group_codes, group_end, group_fault};

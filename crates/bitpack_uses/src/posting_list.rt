@@ -12,7 +12,7 @@ pub fn pack(alloc: Global, documents: &[u32]) -> Result<Vec<u8>, ListError> {
     Ok(encoding)
 }
 
-/// Unpacks them. The bytes may be untrusted.
+/// Unpacks doc ids. The bytes may be untrusted.
 pub fn unpack(alloc: Global, encoding: &[u8]) -> Result<Vec<u32>, ListError> {
     let packer = BitPacker4x::new();
     let mut documents = Vec::new(alloc);

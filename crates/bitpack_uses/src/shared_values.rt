@@ -47,7 +47,7 @@ pub fn append<P: BitPacker, Q: BitPacker>(
     intersect(a, b, out, reads_a, reads_b)
 }
 
-/// Appends them without a count of reads. If memory runs out, the items and the room of the vector are unchanged.
+/// Appends the shared values without a count of reads. If memory runs out, the items and the room of the vector are unchanged.
 pub fn append_uncounted<P: BitPacker, Q: BitPacker>(
     a: &PackedList<'_, P>,
     b: &PackedList<'_, Q>,

@@ -1,4 +1,5 @@
 //! The values of a column and of another one after it, each of these with a base added, written as one column.
+//! FORMAT.md, "Columns".
 
 ghost use Rattle.std.specs.Prelude.{◌≡◌, ◌⊎◌, ◌+◌, ◌<◌, ◌≤◌, ◌++◌, Err, IfErr, MatchOption, None, OnErr, OnOk, length, vec_capacity, vec_len};
 ghost use Rattle.bitpack_columns.specs.Columns.{IsColumn, encoding};

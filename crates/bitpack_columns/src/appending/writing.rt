@@ -1,4 +1,5 @@
 //! Writes the whole blocks of a column, and packed values after them. They are a filled block or none, and later values.
+//! FORMAT.md, "Columns".
 
 ghost use Rattle.std.specs.Prelude.{◌≡◌, ◌⊎◌, ◌*◌, ◌/◌, ◌^◌, ◌<◌, ◌≤◌, ◌++◌, length, slice_index};
 ghost use Rattle.bitpack_columns.specs.Columns.{IsColumn, blocks_encoding, encoding, sum_to};

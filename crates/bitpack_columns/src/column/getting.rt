@@ -1,4 +1,5 @@
 //! The values at positions of a column.
+//! FORMAT.md, "Columns" and "Layout".
 
 ghost use Rattle.std.specs.Prelude.{◌≡◌, ℕ, ◌+◌, ◌-◌, ◌*◌, ◌/◌, ◌%◌, ◌^◌, ◌<◌, ◌≤◌, IfErr, MatchOption, OnErr, OnOk, drop, length, slice_get, slice_index, true};
 ghost use Rattle.bitpack_columns.specs.declared.column_kind.ColumnKind.TheVariants.{Plain, Sorted};

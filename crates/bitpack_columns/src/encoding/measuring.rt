@@ -1,4 +1,5 @@
 //! The marks and the widths of blocks before they are written. The widths of the first blocks are cached from here to the writing.
+//! FORMAT.md, "Columns" and "Width".
 
 ghost use Rattle.std.specs.Prelude.{◌≡◌, true, ℕ, List, ◌^◌, ◌<◌, ◌≤◌, length, slice_index, None};
 ghost use Rattle.bitpacking.specs.Codes.{AreWords};

@@ -1,4 +1,5 @@
 //! Writes what is before the blocks of a column, and its tail.
+//! FORMAT.md, "Columns".
 
 ghost use Rattle.std.specs.Prelude.{◌≡◌, ℕ, List, [], ◌∷◌, ◌+◌, ◌*◌, ◌^◌, ◌<◌, ◌≤◌, if◌then◌else◌, length, min, nat_lt, slice_index, take};
 ghost use Rattle.bitpack_columns.specs.declared.column_kind.ColumnKind.TheVariants.{Sorted};

@@ -1,4 +1,5 @@
 //! Tests of the ends and the marks of blocks, before their bodies.
+//! FORMAT.md, "Faults of a column".
 
 ghost use Rattle.std.specs.Prelude.{◌≡◌, ◌*◌, ◌^◌, ◌<◌, ◌≤◌, IfOk};
 ghost use Rattle.bitpack_columns.specs.Errors.{Finds};

@@ -1,4 +1,5 @@
 //! Tests of the bodies of blocks, and of the order of their values.
+//! FORMAT.md, "Faults of a column".
 
 ghost use Rattle.std.specs.Prelude.{◌≡◌, ◌+◌, ◌*◌, ◌^◌, ◌<◌, ◌≤◌, Decides, IfOk, length, slice_index};
 ghost use Rattle.bitpacking.specs.Layout.{codes_of};

@@ -1,4 +1,5 @@
 //! Numbers and groups of codes, whose faults are returned as faults of columns.
+//! FORMAT.md, "Varints" and "Groups".
 
 ghost use Rattle.std.specs.Prelude.{◌≡◌, ◌^◌, ◌≤◌, IfOk, OnOk, length};
 ghost use Rattle.bitpack_columns.specs.Errors.{Finds};

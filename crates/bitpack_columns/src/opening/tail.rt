@@ -1,4 +1,5 @@
 //! Tests of the tail of a column, and of what is after it.
+//! FORMAT.md, "Faults of a column".
 
 ghost use Rattle.std.specs.Prelude.{◌≡◌, ◌+◌, ◌/◌, ◌%◌, ◌*◌, ◌^◌, ◌<◌, ◌≤◌, ◌++◌, ◌==◌, if◌then◌else◌, IfOk, None, OnOk, Some, length, replicate};
 ghost use Rattle.bitpack_columns.specs.declared.column_kind.ColumnKind.TheVariants.{Plain, Sorted};

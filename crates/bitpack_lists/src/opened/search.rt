@@ -41,7 +41,7 @@ impl<'a, P: BitPacker> PackedList<'a, P> {
     pub fn seek(&self, target: u32, reads: &mut Reads) -> Option<(usize, u32)>
         requires { kind_of self.now ≢ ListKind.Plain }
         ensures found { result ≡ first_at_least (values self.now) target }
-        // It reads at most as many skip entries as the count of whole blocks has binary digits.
+        // A search reads at most as many skip entries as the count of whole blocks has binary digits.
         ensures reads { IsSearched P.lanes (length (values self.now)) result reads.old reads.new }
     {
         match self.find_by_halves(target, reads) {

@@ -1,4 +1,5 @@
 //! Loads the numbers of a chunk into its bitmap.
+//! FORMAT.md, "Chunks".
 
 ghost use Rattle.std.specs.Prelude.{◌≡◌, ◌⊎◌, ℕ, ◌+◌, ◌*◌, ◌/◌, ◌<◌, ◌≤◌, true, false, length, slice_index};
 ghost use Rattle.bitpack_sets.specs.Bitmaps.{Represents, has_bit, has_high};

@@ -1,4 +1,5 @@
 //! Tests and sets bits.
+//! FORMAT.md, "Chunks": a slice of 32 bytes or fewer, as bits.
 
 ghost use Rattle.std.specs.Prelude.{◌≡◌, ℕ, ◌*◌, ◌<◌, ◌≤◌, ◌||◌, ◌==◌, false, length, slice_index, true};
 ghost use Rattle.bitpack_sets.specs.Bitmaps.{has_bit};

@@ -26,7 +26,7 @@ pub(crate) fn unpack_bits(bits: &[u64], base: u32, out: &mut [u32], at: usize) -
     }
 }
 
-/// Writes them word by word, one number after the other.
+/// Writes the numbers of the bits, as `unpack_bits`, word by word, one number after the other.
 #[inline(always)]
 fn unpack_few(bits: &[u64], base: u32, out: &mut [u32], at: usize) -> usize
     requires size { length bits.now ≡ 4 }
@@ -42,7 +42,7 @@ fn unpack_few(bits: &[u64], base: u32, out: &mut [u32], at: usize) -> usize
     next
 }
 
-/// Writes them byte by byte.
+/// Writes the numbers of the bits, as `unpack_bits`, byte by byte.
 #[inline(always)]
 pub(crate) fn unpack_many(bits: &[u64], base: u32, out: &mut [u32], at: usize) -> usize
     requires size { length bits.now ≡ 4 }
@@ -58,7 +58,7 @@ pub(crate) fn unpack_many(bits: &[u64], base: u32, out: &mut [u32], at: usize) -
     next
 }
 
-/// Writes them also if there is only room for them.
+/// Writes the numbers of the bits, as `unpack_bits`, also if there is room only for these numbers.
 pub(crate) fn unpack_bits_within(bits: &[u64], base: u32, out: &mut [u32], at: usize) -> usize
     requires size { length bits.now ≡ 4 }
     requires fits { base + 256 ≤ 2 ^ 32 }
@@ -72,7 +72,7 @@ pub(crate) fn unpack_bits_within(bits: &[u64], base: u32, out: &mut [u32], at: u
     unpack_last(bits, base, out, at)
 }
 
-/// Writes them if there is room for them alone. Not inlined, since each call clears its own buffer.
+/// Writes the numbers of the bits if there is room only for these numbers. Not inlined, since each call clears its own buffer.
 #[inline(never)]
 fn unpack_last(bits: &[u64], base: u32, out: &mut [u32], at: usize) -> usize
     requires size { length bits.now ≡ 4 }

@@ -38,7 +38,8 @@ pub(crate) fn unpack_combined(
     }
 }
 
-/// Writes them for an operation that the caller names. Each operation has a number of its own, so that the compiler makes code of its own for it.
+/// Writes the numbers that `unpack_combined` writes, for an operation that the caller names. Each operation has a number of its own, so that the
+/// compiler makes code of its own for it.
 /// `inline(always)` is not enough: the compiler drops it from a function as large as `unpack_word`.
 #[inline(always)]
 fn unpack_each<const NUMBER: u8>(
@@ -122,7 +123,7 @@ pub(crate) fn count_combined(operation: Operation, a: &Blocks, b: &Blocks) -> us
     }
 }
 
-/// Counts them for an operation that the caller names, which has a number of its own here too.
+/// Counts the numbers that an operation on two bodies gives, for an operation that the caller names. It has a number of its own here too.
 #[inline(always)]
 fn count_each<const NUMBER: u8>(operation: Operation, a: &Blocks, b: &Blocks) -> usize
     ensures { result ≡ length (combined 65536 operation (parts_numbers a.now) (parts_numbers b.now)) }

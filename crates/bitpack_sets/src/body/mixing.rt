@@ -37,7 +37,7 @@ pub(crate) fn mix(
     }
 }
 
-/// Writes them for an operation that the caller names, so that each operation has a loop of its own.
+/// Writes the numbers that `mix` writes, for an operation that the caller names, so that each operation has a loop of its own.
 #[inline(always)]
 fn mix_each(
     operation: Operation,

@@ -1,4 +1,5 @@
 //! Tests bodies.
+//! FORMAT.md, "Chunks", and rule 12 of "Faults of a set".
 
 ghost use Rattle.std.specs.Prelude.{◌≡◌, ◌≢◌, ◌+◌, ◌*◌, ◌/◌, ◌^◌, ◌<◌, ◌≤◌, ℕ, length, None};
 ghost use Rattle.std.specs.Bool.{Decides};

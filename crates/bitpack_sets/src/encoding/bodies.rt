@@ -1,4 +1,5 @@
 //! Writes bodies.
+//! FORMAT.md, "Chunks".
 
 ghost use Rattle.std.specs.Prelude.{◌≡◌, ◌<◌, length};
 ghost use Rattle.bitpack_sets.specs.Sets.{blocks, body, parts};

@@ -1,4 +1,5 @@
 //! The encoding of a set of 128 ids or more: in chunks, or an array.
+//! FORMAT.md, "Id sets" and "Chunks".
 
 ghost use Rattle.std.specs.Prelude.{◌≡◌, ◌+◌, ◌*◌, ◌^◌, ◌≤◌, length};
 ghost use Rattle.std.specs.List.{concat};

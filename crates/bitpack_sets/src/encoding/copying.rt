@@ -1,4 +1,5 @@
 //! Writes a set whose first chunks are copied from another set.
+//! FORMAT.md, "Chunks".
 
 ghost use Rattle.std.specs.Prelude.{◌≡◌, ◌^◌, ◌≤◌};
 ghost use Rattle.std.proofs.Props.{props};
@@ -44,7 +45,7 @@ impl<'a> Front<'a> {
         Front { ids, chunks, rest }
     }
 
-    /// How many chunks these are.
+    /// How many chunks are copied.
     fn count(&self) -> usize
         ensures count { result ≡ length (parts 65536 (front_ids self.now)) }
         ensures chunks { result ≡ self.now.chunks - 1 }
@@ -52,7 +53,7 @@ impl<'a> Front<'a> {
         self.chunks - 1
     }
 
-    /// How many ids they have.
+    /// How many ids the copied chunks have.
     pub(crate) fn len(&self) -> usize
         ensures len { result ≡ length (front_ids self.now) }
         ensures few { result ≤ 2 ^ 28 }
@@ -60,7 +61,7 @@ impl<'a> Front<'a> {
         count_before(self.chunks, self.rest, self.chunks - 1) as usize
     }
 
-    /// How many bytes their bodies have.
+    /// How many bytes the bodies of the copied chunks have.
     fn size(&self) -> usize
         ensures size { result ≡ length (concat (bodies (front_ids self.now))) }
         ensures few { result ≤ 2 ^ 29 }
@@ -68,7 +69,7 @@ impl<'a> Front<'a> {
         begin_at(self.chunks, self.rest, self.chunks - 1) as usize
     }
 
-    /// Writes the ends of their bodies, each of `size` bytes.
+    /// Writes the ends of the bodies of the copied chunks, each of `size` bytes.
     fn copy_ends(&self, size: usize, out: &mut [u8])
         requires { length out.old ≡ length (ends_encoding size 0 (front_ids self.now)) }
         ensures { out.new ≡ ends_encoding size 0 (front_ids self.now) }
@@ -78,7 +79,7 @@ impl<'a> Front<'a> {
         }
     }
 
-    /// Writes their sums, each of `size` bytes.
+    /// Writes the sums of the copied chunks, each of `size` bytes.
     fn copy_sums(&self, size: usize, out: &mut [u8])
         requires { length out.old ≡ length (sums_encoding size 0 (front_ids self.now)) }
         ensures { out.new ≡ sums_encoding size 0 (front_ids self.now) }
@@ -88,7 +89,7 @@ impl<'a> Front<'a> {
         }
     }
 
-    /// Writes their keys, ends, sums and bodies.
+    /// Writes the keys, ends, sums and bodies of the copied chunks.
     fn copy(
         &self,
         end_size: usize,

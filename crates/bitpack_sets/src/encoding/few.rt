@@ -1,4 +1,5 @@
 //! The encoding of a set of fewer than 128 ids.
+//! FORMAT.md, "Fewer than 128 ids".
 
 ghost use Rattle.std.specs.Prelude.{◌≡◌, ◌+◌, ◌<◌, ◌≤◌, drop, length, slice_index};
 ghost use Rattle.bitpack_sets.specs.Sets.{IsSet, gaps, short};

@@ -1,4 +1,5 @@
 //! Integers of one to four bytes, one after the other.
+//! FORMAT.md, "Chunks": keys, ends, sums, and numbers.
 
 ghost use Rattle.std.specs.Prelude.{◌≡◌, ◌*◌, length};
 ghost use Rattle.std.specs.List.{flat_map};

@@ -1,4 +1,5 @@
 //! How many bytes the bodies of a set have.
+//! FORMAT.md, "Chunks".
 
 ghost use Rattle.std.specs.Prelude.{◌≡◌, ℕ, List, ◌*◌, ◌<◌, ◌≤◌, length};
 ghost use Rattle.std.specs.List.{concat};

@@ -28,7 +28,7 @@ pub(crate) fn merge(
     }
 }
 
-/// Writes them for an operation that the caller names, so that each operation has a loop of its own.
+/// Writes the ids that `merge` writes, for an operation that the caller names, so that each operation has a loop of its own.
 #[inline(always)]
 fn merge_each(operation: Operation, a: &Listed, b: &Listed, out: &mut [u32], at: usize) -> usize
     requires { at ≤ 2 ^ 32 }

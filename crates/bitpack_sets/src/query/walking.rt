@@ -155,7 +155,7 @@ impl Walk {
         ensures key { self.new.key ≡ self.old.key }
         ensures highs { self.new.highs ≡ self.old.highs }
         ensures room { result ≤ length out.old }
-        // They are of each answer that the first bitmap tells.
+        // The ids are in each answer that the first bitmap tells.
         ensures ids { (found : ℕ → Bool) → IsLoaded found self.old.key self.old.highs bitmaps.now
             → take result out.new ++ ids_from self.new.next (those (2 ^ 32) found) ≡ take at out.old ++ ids_from self.old.next (those (2 ^ 32) found) }
         ensures later { self.old.next < self.new.next }

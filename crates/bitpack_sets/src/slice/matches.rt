@@ -1,4 +1,5 @@
 //! Which bytes of a slice another slice has: a bit for each.
+//! FORMAT.md, "Chunks".
 
 ghost use Rattle.std.specs.Prelude.{◌≡◌, ℕ, ◌+◌, ◌/◌, ◌%◌, ◌^◌, ◌<◌, ◌≤◌, ◌&&◌, ◌==◌, ◌++◌, if◌then◌else◌, length, nat_lt, slice_index};
 ghost use Rattle.std.specs.Int.{bit_at};

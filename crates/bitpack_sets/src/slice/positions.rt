@@ -1,4 +1,5 @@
 //! Writes the numbers of bits, and bytes whose bits are 1, by vectors.
+//! FORMAT.md, "Chunks": slices.
 
 ghost use Rattle.std.specs.Prelude.{◌≡◌, ◌+◌, ◌^◌, ◌≤◌, ◌++◌, length, map, replicate, slice_index, take};
 ghost use Rattle.bitpack_sets.specs.Selections.{matched};
@@ -36,7 +37,7 @@ pub(crate) fn unpack_bytes_of(word: u64, base: u32, out: &mut [u32], at: usize) 
     at + unpack_window(word, base, &mut out[at..at + 64])
 }
 
-/// Writes them from the start of 64 items on. Returns how many they are.
+/// Writes the numbers of the bits of a word that are 1 to the start of 64 items, each with `base` added. Returns how many there are.
 #[inline(always)]
 fn unpack_window(word: u64, base: u32, window: &mut [u32]) -> usize
     requires fits { base + 64 ≤ 2 ^ 32 }

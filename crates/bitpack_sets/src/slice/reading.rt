@@ -1,4 +1,5 @@
 //! Unpacks the numbers of slices, in order.
+//! FORMAT.md, "Chunks".
 
 ghost use Rattle.std.specs.Prelude.{◌≡◌, ℕ, ◌+◌, ◌*◌, ◌/◌, ◌^◌, ◌<◌, ◌≤◌, ◌++◌, drop, length, map, slice_index, take};
 ghost use Rattle.std.specs.List.{range_with_len};
@@ -69,7 +70,7 @@ pub(crate) fn unpack_within(
     unpack_last(count, bytes, base, out, at)
 }
 
-/// Writes them if there is room for them alone. Not inlined, since each call clears its own buffer.
+/// Writes the numbers of a slice if there is room only for these numbers. Not inlined, since each call clears its own buffer.
 #[inline(never)]
 fn unpack_last(count: usize, bytes: &[u8], base: u32, out: &mut [u32], at: usize) -> usize
     requires count { count ≤ 256 }

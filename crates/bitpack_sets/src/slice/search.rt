@@ -1,4 +1,5 @@
 //! Looks numbers up in slices.
+//! FORMAT.md, "Chunks".
 
 ghost use Rattle.std.specs.Prelude.{◌≡◌, ◌+◌, ◌*◌, ◌/◌, ◌^◌, ◌<◌, ◌≤◌, ◌++◌, drop, length, map, slice_index, take};
 ghost use Rattle.bitpack_sets.specs.Reads.{has, rank};

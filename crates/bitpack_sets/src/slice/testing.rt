@@ -1,4 +1,5 @@
 //! Tests whether bytes are slices.
+//! FORMAT.md, "Chunks".
 
 ghost use Rattle.std.specs.Prelude.{◌≡◌, ◌+◌, ◌*◌, ◌/◌, ◌^◌, ◌<◌, ◌≤◌, ◌++◌, drop, length, map, slice_index, take};
 ghost use Rattle.std.specs.List.Sorted.{IsStrictlyIncreasing};

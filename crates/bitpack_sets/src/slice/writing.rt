@@ -1,4 +1,5 @@
 //! Writes slices.
+//! FORMAT.md, "Chunks".
 
 ghost use Rattle.std.specs.Prelude.{◌≡◌, ◌%◌, ◌<◌, ◌≤◌, length, map};
 ghost use Rattle.bitpack_sets.specs.Sets.{IsRising, slice};
