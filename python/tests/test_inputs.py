@@ -41,7 +41,7 @@ def forms(values):
             yield from (np.array(values, dtype), wide[::2], np.array(values[::-1], dtype)[::-1], frozen)
         yield from (array.array(it, values) for it in "qI" if fits(values, "i8" if it == "q" else "u4"))
         yield from (memoryview(np.array(values, it)) for it in ("i8", "u4") if fits(values, it))
-    elif len(kinds) == 1 and kinds != {list} and len({getattr(it, "dtype", None) for it in values}) == 1:
+    elif len(kinds) == 1 and kinds.isdisjoint({list, tuple}) and len({getattr(it, "dtype", None) for it in values}) == 1:
         yield np.array(values)
 
 
