@@ -1,4 +1,5 @@
-"""Random programs over the whole package, beside the sets, lists and integers of Python. FIMULOWEN_PROGRAMS says how many of them."""
+"""Random programs over the whole package, beside the sets, lists and integers of Python. They are the same ones each time; with the variable
+FIMULOWEN_PROGRAMS as many others, and the shortest one that fails is looked for."""
 
 import copy
 import ctypes
@@ -9,7 +10,7 @@ import pickle
 import numpy as np
 from fimulowen import Column, IdSet, Query, combining
 from fimulowen.column import CHUNK
-from hypothesis import HealthCheck, settings
+from hypothesis import HealthCheck, Phase, settings
 from hypothesis import strategies as st
 from hypothesis.stateful import Bundle, RuleBasedStateMachine, rule
 
@@ -313,6 +314,10 @@ class Programs(RuleBasedStateMachine):
 
 
 Programs.TestCase.settings = settings(
-    max_examples=int(PROGRAMS or 40), stateful_step_count=40, derandomize=not PROGRAMS, suppress_health_check=list(HealthCheck)
+    max_examples=int(PROGRAMS or 40),
+    stateful_step_count=40,
+    derandomize=not PROGRAMS,
+    phases=[Phase.generate, *([Phase.shrink] if PROGRAMS else [])],
+    suppress_health_check=list(HealthCheck),
 )
 TestPrograms = Programs.TestCase
