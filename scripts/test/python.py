@@ -46,7 +46,7 @@ WRONG = [
     ("test_column_calls.py::test_lock_is_released", "column_reading.c", "UNLOCKED(len, failed = gather(", "((void)len, failed = gather("),
     ("test_column.py::test_types_in", "column_values.py", "is_wide = max(numbers, default=0) >= 1 << 63", "is_wide = False"),
     ("test_inputs.py::test_columns", "column_values.py", "return objects_of(items) if", "return objects_of([*values]) if"),
-    ("test_inputs.py::test_integers", "values.py", "{bool, np.bool_}.isdisjoint(map(type, some))", "{bool}.isdisjoint(map(type, some))"),
+    ("test_inputs.py::test_integers", "values.py", "{bool, np.bool_}.isdisjoint(", "{bool}.isdisjoint("),
     ("test_inputs.py::test_types_out", "values.py", "if min(numbers) < first or max(numbers) > last:", "if max(numbers) > last:"),
     ("test_inputs.py::test_no_iterable", "values.py", "(str, bytes, bytearray, mmap.mmap)", "(bytes, bytearray, mmap.mmap)"),
     ("test_limits.py::test_units", "limits.py", "month % (_MONTHS[unit] * count) == 0", "True"),

@@ -41,7 +41,7 @@ static PyObject *range_of(PyObject *self, size_t from, size_t len)
     return array;
 }
 
-/* The same in falling order. */
+/* These ids in falling order, as a view of an array that has no others. */
 static PyObject *falling(PyObject *self, size_t from, size_t len)
 {
     PyObject *all = range_of(self, from, len), *step = PyLong_FromLong(-1), *slice = step ? PySlice_New(NULL, NULL, step) : NULL;
@@ -81,14 +81,15 @@ static void write_far(const bitpacking_set *view, Py_ssize_t from, Py_ssize_t st
 /* The ids of a slice with a step, as a new array. */
 static PyObject *stepped(PyObject *self, Py_ssize_t from, Py_ssize_t step, size_t len)
 {
-    void (*write)(const bitpacking_set *, Py_ssize_t, Py_ssize_t, uint32_t *, size_t) = -SPARSE < step && step < SPARSE ? write_near : write_far;
+    const size_t apart = (size_t)(step > 0 ? step : -step), each = apart < SPARSE ? apart : 1;
+    void (*write)(const bitpacking_set *, Py_ssize_t, Py_ssize_t, uint32_t *, size_t) = apart < SPARSE ? write_near : write_far;
     Py_buffer out;
     PyObject *array = new_array(len, type_u32, &out);
     size_t done, count;
 
     for (done = 0; array && done < len; done += count) {
         count = least_of(len - done, FEW);
-        UNLOCKED(count, write(view_of(self), from + (Py_ssize_t)done * step, step, (uint32_t *)out.buf + done, count));
+        UNLOCKED(count * each, write(view_of(self), from + (Py_ssize_t)done * step, step, (uint32_t *)out.buf + done, count));
         if (PyErr_CheckSignals() < 0) {
             PyBuffer_Release(&out);
             Py_CLEAR(array);

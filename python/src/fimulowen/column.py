@@ -42,8 +42,8 @@ Values = Union[np.ndarray, Iterable[Union[SupportsIndex, np.datetime64, np.timed
 class Column(_core.Column):
     """Integers of 64 bits, with a sign or without, or dates or times of numpy, any of which may be missing. It does not change.
 
-    `values` is an array, or any iterable of integers and None. Missing are the values for which `missing` is true, None, NaT, NA of pandas, and
-    what a masked array masks. TypeError or OverflowError, with the position of the first value that is none."""
+    `values` is an array, or any iterable of integers, or of dates or spans of numpy, and None. Missing are the values for which `missing` is
+    true, None, NaT, NA of pandas, and what a masked array masks. TypeError or OverflowError, with the position of the first value that is none."""
 
     __slots__ = ("_dtype",)
     __array_ufunc__ = None  # array == column must not depend on whether values are missing
@@ -167,7 +167,7 @@ class Column(_core.Column):
 
     def _shown(self, numbers: np.ndarray, mask: Optional[np.ndarray], fill: Any) -> np.ndarray:
         """Numbers as an array for a caller, who named a value for those that are missing, or None."""
-        number = self._fill(fill)
+        number = 0 if mask is None is fill else self._fill(fill)
         if mask is not None and (fill is not None or self._dtype.kind in "Mm"):
             numbers[mask] = number
         elif mask is not None:
@@ -187,7 +187,7 @@ class Column(_core.Column):
 
     def unpack(self, out: Optional[np.ndarray] = None, dtype: npt.DTypeLike = None, fill: Any = None) -> np.ndarray:
         """All values, as an array of the type of the column, or of another one. They go to the front of `out` if there is one: the call returns
-        the part of it that has them. OverflowError if a value does not fit another type of integers.
+        the part of it that has them. OverflowError if a value or `fill` does not fit the type.
 
         Missing values are NaT, or `fill`, or the array is a masked one if there is no `fill`; an `out` needs it."""
         wanted = room_for(len(self), out, dtype).dtype if out is not None else np.dtype(self._dtype if dtype is None else dtype)

@@ -97,10 +97,9 @@ def _dtype_of(array: np.ndarray) -> np.dtype:
 
 def _of_objects(objects: np.ndarray) -> Tuple[np.ndarray, np.ndarray]:
     """Integers, dates or spans that are objects, and which are None."""
-    absent = np.equal(objects, None)
-    there: List[Any] = objects[~absent].tolist()
-    if there and set(map(type, there)) in ({np.datetime64}, {np.timedelta64}):
-        return _of_times(there, absent), absent
+    absent = np.array([it is None for it in objects], bool)
+    if set(map(type, objects.tolist())) - {type(None)} in ({np.datetime64}, {np.timedelta64}):
+        return _of_times(objects[~absent].tolist(), absent), absent
     numbers: List[int] = [0 if it is None else integer(it, at) for at, it in enumerate(objects)]
     is_wide = max(numbers, default=0) >= 1 << 63
     least, greatest = (0, (1 << 64) - 1) if is_wide else (-(1 << 63), (1 << 63) - 1)

@@ -122,7 +122,7 @@ def _end(node: _Node) -> _Steps:
     call, operands = node
     ends = []
     for it in operands:
-        ends.append((yield _end(it)))
+        ends.append(it.max() + 1 if isinstance(it, IdSet) and it else (yield _end(it)))
     return min(ends) if call is intersect else ends[0] if call is subtract else max(ends)
 
 

@@ -163,7 +163,7 @@ def _has_bool(part: Any, array: np.ndarray) -> bool:
     if len(some) > 1000:  # to look at each takes longer
         at = np.flatnonzero((array == 0) | (array == 1))
         some = some if 8 * len(at) > len(some) else list(map(some.__getitem__, at))
-    return not {bool, np.bool_}.isdisjoint(map(type, some))
+    return not {bool, np.bool_}.isdisjoint(set(map(type, some)))
 
 
 def objects_of(part: Any) -> np.ndarray:
