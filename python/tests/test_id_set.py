@@ -45,11 +45,6 @@ def test_as_numpy(ids):
     assert packed.unpack().dtype == np.uint32 and (packed.unpack() == ids).all() and (np.asarray(packed) == ids).all()
     assert list(packed) == ids.tolist()
     some = [
-        (None, None, 3),
-        (-5, None, -599),
-        (None, None, 511),
-        (None, None, -512),
-        (1, None, 2**62),
         (None, None, None),
         (3, -3, None),
         (None, None, -1),
@@ -59,6 +54,7 @@ def test_as_numpy(ids):
         (-2, None, None),
         (2, 2, None),
     ]
+    some += [(None, None, 3), (-5, None, -599), (None, None, 511), (None, None, -512), (1, None, 2**62)]
     for part in [slice(*it) for it in some]:
         assert packed[part].tolist() == ids[part].tolist()
     for at in {0, len(ids) // 2, len(ids) - 1, -1, -len(ids)} if len(ids) else ():
@@ -389,10 +385,8 @@ def test_buffers(tmp_path):
             with pytest.raises(TypeError):
                 call(wrong)
     for packed in (IdSet(range(0, 9000, 3)), Column([5, None])):
-        apart = np.zeros((packed.nbytes, 2), "u1")
-        apart[:, 0] = packed.data
-        frozen = np.frombuffer(apart.tobytes(), "u1").reshape(apart.shape)
-        for strided in (apart[:, 0], frozen[:, 0], frozen[::-1, 0][::-1]):
+        apart = np.repeat(np.frombuffer(packed.data, "u1"), 2)
+        for strided in (apart[::2], np.frombuffer(apart.tobytes(), "u1")[1::2]):
             assert type(packed).open(strided) == packed
             assert not isinstance(packed, IdSet) or IdSet.open_many(strided, [0, len(strided)]) == [packed]
     with pytest.raises(TypeError):

@@ -9,13 +9,13 @@ import pickle
 
 import numpy as np
 from fimulowen import Column, IdSet, Query, combining
-from fimulowen.column import CHUNK
 from hypothesis import HealthCheck, Phase, settings
 from hypothesis import strategies as st
 from hypothesis.stateful import Bundle, RuleBasedStateMachine, rule
 
 from test_arrow import structs
-from test_inputs import CALLS, INTEGERS, as_type, fits, forms, outcome
+from test_column_inputs import as_type
+from test_inputs import CALLS, INTEGERS, fits, forms, outcome
 from test_limits import MONTHS, SIZES, UNITS, D, T, amount
 
 MOST, GAP = 2**32 - 1, -(2**63)

@@ -1,8 +1,8 @@
 #!/usr/bin/env python3
 """Builds the package of python/ as its README says, from a folder that scripts/build/install.py wrote. It looks at the wheel, installs it in a
 new virtual environment without an index, and runs there the tests of python/tests/ and the examples of the pages, whose types `mypy --strict`
-has to accept; it has to refuse MISTAKES. Then it builds and installs the package in one step with the address sanitizer, and runs the tests once more. Last, some wrong changes
-of the package have to fail a test of each file.
+has to accept, and MISTAKES, which it has to refuse. Then it builds and installs the package in one step with the address sanitizer, and runs
+the tests once more. Last, some wrong changes of the package have to fail a test of each file.
 
 It takes the first Python, of the one that runs it and /usr/bin/python3, that is 3.11 or later with its header files, and has MODULES.
 """
@@ -45,9 +45,9 @@ WRONG = [
     ("test_column_calls.py::test_constant", "column_search.c", "    free(found.at);\n", ""),
     ("test_column_calls.py::test_lock_is_released", "column_reading.c", "UNLOCKED(len, failed = gather(", "((void)len, failed = gather("),
     ("test_column.py::test_types_in", "column_values.py", "is_wide = max(numbers, default=0) >= 1 << 63", "is_wide = False"),
-    ("test_inputs.py::test_columns", "column_values.py", "return objects_of(items) if", "return objects_of([*values]) if"),
+    ("test_column_inputs.py::test_columns", "column_values.py", "return objects_of(items) if", "return objects_of([*values]) if"),
     ("test_inputs.py::test_integers", "values.py", "{bool, np.bool_}.isdisjoint(", "{bool}.isdisjoint("),
-    ("test_inputs.py::test_types_out", "values.py", "if min(numbers) < first or max(numbers) > last:", "if max(numbers) > last:"),
+    ("test_column_inputs.py::test_types_out", "values.py", "if min(numbers) < first or max(numbers) > last:", "if max(numbers) > last:"),
     ("test_inputs.py::test_no_iterable", "values.py", "(str, bytes, bytearray, mmap.mmap)", "(bytes, bytearray, mmap.mmap)"),
     ("test_limits.py::test_units", "limits.py", "month % (_MONTHS[unit] * count) == 0", "True"),
     ("test_limits.py::test_outside_of_the_unit", "column.py", "min(self._limit(high, -1), last)", "self._limit(high, -1) & last"),

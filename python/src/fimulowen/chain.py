@@ -5,7 +5,7 @@ A block has 32 values for each of its 1, 4 or 8 lanes. One block is a chain of o
 from __future__ import annotations
 
 import operator
-from typing import Any, Literal, Optional, SupportsIndex, Tuple
+from typing import Literal, Optional, SupportsIndex, Tuple
 
 import numpy as np
 import numpy.typing as npt

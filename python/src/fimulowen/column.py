@@ -43,7 +43,8 @@ class Column(_core.Column):
     """Integers of 64 bits, with a sign or without, or dates or times of numpy, any of which may be missing. It does not change.
 
     `values` is an array, or any iterable of integers, or of dates or spans of numpy, and None. Missing are the values for which `missing` is
-    true, None, NaT, NA of pandas, and what a masked array masks. TypeError or OverflowError, with the position of the first value that is none."""
+    true, None, NaT, NA of pandas, and what a masked array masks. TypeError or OverflowError, with the position of the first value that is none.
+    """
 
     __slots__ = ("_dtype",)
     __array_ufunc__ = None  # array == column must not depend on whether values are missing
