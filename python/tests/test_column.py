@@ -101,7 +101,7 @@ def test_searches(name, share):
         assert (column.between(low, high) == wanted).all() and column.count_between(low, high) == len(wanted)
         assert (column.between_ids(low, high).unpack() == wanted).all()
     if column.kind == "plain":
-        with pytest.raises(Error):
+        with pytest.raises(Error, match="not in order: sort them before they are packed, or ask `between`. .BadKind"):
             column.seek(5)
         return
     there = np.flatnonzero(~missing)

@@ -7,7 +7,7 @@ import pickle
 
 import numpy as np
 import pytest
-from fimulowen import Error, IdSet
+from fimulowen import Column, Error, IdSet
 from fimulowen.values import index, u32
 from hypothesis import given
 from hypothesis import strategies as st
@@ -54,6 +54,7 @@ def test_as_numpy(ids):
         (-2, None, None),
         (2, 2, None),
     ]
+    some += [(None, None, 3), (-5, None, -599), (None, None, 511), (None, None, -512), (1, None, 2**62)]
     for part in [slice(*it) for it in some]:
         assert packed[part].tolist() == ids[part].tolist()
     for at in {0, len(ids) // 2, len(ids) - 1, -1, -len(ids)} if len(ids) else ():
@@ -141,7 +142,7 @@ def test_types_in(tmp_path):
     [
         ([1, 1.5], TypeError, "position 1: 1.5 is not an integer"),
         (["1"], TypeError, "position 0: '1' is not an integer"),
-        ("12", TypeError, "position 0: '1'"),
+        ("12", TypeError, "integers expected, not str"),
         ([3, None], TypeError, "position 1: None"),
         ([True], TypeError, "position 0: True"),
         (np.array([False, True]), TypeError, "position 0: False"),
@@ -379,9 +380,15 @@ def test_buffers(tmp_path):
     writable[:] = bytes(len(text))
     assert packed[-1] == 8997
     writable.close()
-    for wrong in (None, "text", 5, [1]):
-        with pytest.raises(TypeError):
-            IdSet.open(wrong)
+    for wrong in (None, "text", 5, [1], 1.5, range(3), IdSet([1])):
+        for call in (IdSet.open, Column.open, lambda it: IdSet.open_many(it, [0, 1])):
+            with pytest.raises(TypeError):
+                call(wrong)
+    for packed in (IdSet(range(0, 9000, 3)), Column([5, None])):
+        apart = np.repeat(np.frombuffer(packed.data, "u1"), 2)
+        for strided in (apart[::2], np.frombuffer(apart.tobytes(), "u1")[1::2]):
+            assert type(packed).open(strided) == packed
+            assert not isinstance(packed, IdSet) or IdSet.open_many(strided, [0, len(strided)]) == [packed]
     with pytest.raises(TypeError):
         IdSet.open()
 

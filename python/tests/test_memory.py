@@ -4,6 +4,7 @@ import copy
 import gc
 import pickle
 import sys
+import tracemalloc
 
 import fimulowen
 import numpy as np
@@ -108,6 +109,23 @@ def test_constant():
 
     # Caches of numpy grow for a while. What a call leaks grows in each round.
     assert any(blocks < 50 and size < 60 * 1024 for blocks, size in (grown() for _ in range(16)))
+
+
+def test_slices():
+    """A slice with a step holds no more than what it shows, and one of few ids unpacks no others."""
+    packed, column = IdSet(range(4_000_000)), fimulowen.Column(range(1_000_000))
+    tracemalloc.start()
+    for it, most in ((packed, 10_000), (column, 40_000)):
+        for step in (100_000, -100_000, 2, -2, 511, 512, 513, 15, 16, 17):
+            found, wide = it[::step], it.unpack().itemsize
+            while found.base is not None:
+                found = found.base
+            assert found.nbytes == wide * len(range(0, len(it), abs(step)))
+        tracemalloc.reset_peak()
+        before = tracemalloc.get_traced_memory()[0]
+        it[::100_000], it[::-100_000]
+        assert tracemalloc.get_traced_memory()[1] - before < most
+    tracemalloc.stop()
 
 
 def test_references():

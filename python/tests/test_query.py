@@ -1,6 +1,8 @@
 """Lazy trees of sets beside the sets of Python."""
 
+import copy
 import operator
+import pickle
 
 import fimulowen
 import numpy as np
@@ -57,6 +59,43 @@ def test_is_lazy(monkeypatch):
     for at in range(3000):
         chain = chain | [at]
     assert len(chain) == 3000
+
+
+def test_any_depth():
+    """No call on a query recurses with its depth."""
+    query, other = Query([5, 70_000]), IdSet([5, 6, 70_000])
+    for _ in range(5000):
+        query = (query | [6]) - [7]
+    deep = other & query ^ [9]
+    assert list(deep) == [5, 6, 9, 70_000] == deep.unpack().tolist() and len(deep) == 4 and deep.seek(7) == 9 and bool(deep)
+    assert np.asarray(deep).tolist() == list(deep) == list(IdSet(deep)) and repr(deep) == "<Query of ((.. - 1 ids) & 3 ids) ^ 1 ids>"
+    for again in (pickle.loads(pickle.dumps(deep)), copy.copy(deep), copy.deepcopy(deep)):
+        assert list(again) == [5, 6, 9, 70_000] and type(again) is Query
+    del deep, query, again
+
+
+def test_represented():
+    assert repr(Query([1, 2])) == "<Query of 2 ids>"
+    assert repr(Query([]) | [1] | [2, 3] | [] | [5]) == "<Query of 0 ids | 1 ids | 2 ids | 0 ids ..>"
+    assert repr(((Query([1]) | [2]) - IdSet([2])) & (Query([7]) ^ [8])) == "<Query of ((1 ids | 1 ids) - 1 ids) & (1 ids ^ 1 ids)>"
+
+
+@settings(max_examples=20)
+@given(trees())
+def test_copies(tree):
+    query, wanted = tree[0], sorted(tree[1])
+    for again in (pickle.loads(pickle.dumps(query, 5)), copy.deepcopy(query)):
+        assert list(again) == wanted and repr(again) == repr(query)
+
+
+def test_parts_grow(monkeypatch):
+    """Few calls find few ids, however far apart: the parts grow up to 2**24. Those of many ids do not."""
+    found, original = [], fimulowen.combining.combined
+    monkeypatch.setattr(fimulowen.combining, "combined", lambda *calls: found.append(1) or original(*calls))
+    query = Query([0, 2**32 - 1]) | [7]
+    assert [it.tolist() for it in query.parts()] == [[0, 7], [2**32 - 1]] and 256 <= len(found) <= 264
+    found.clear()
+    assert [len(it) for it in (Query(range(1 << 20)) | []).parts()] == [1 << 16] * 16 and len(found) == 16
 
 
 def test_refused():

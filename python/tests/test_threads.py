@@ -71,7 +71,7 @@ UNLOCKED = {
     "intersect_len": lambda it: _core.set_count(INTERSECT, it.pair),
     "unite_len": lambda it: _core.set_count(UNITE, it.pair),
     "slice": lambda it: it.a[:],
-    "slice with a step": lambda it: it.a[::900_000],
+    "slice with a step": lambda it: it.a[::500],
     "unpack to uint32": lambda it: it.a._read(it.out),
     "unpack to int64": lambda it: it.a._read(it.wide),
     "gather": lambda it: it.a._gather(it.positions),

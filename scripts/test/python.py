@@ -1,8 +1,8 @@
 #!/usr/bin/env python3
 """Builds the package of python/ as its README says, from a folder that scripts/build/install.py wrote. It looks at the wheel, installs it in a
 new virtual environment without an index, and runs there the tests of python/tests/ and the examples of the pages, whose types `mypy --strict`
-has to accept. Then it builds and installs the package in one step with the address sanitizer, and runs the tests once more. Last, some wrong changes
-of the package have to fail a test of each file.
+has to accept, and MISTAKES, which it has to refuse. Then it builds and installs the package in one step with the address sanitizer, and runs
+the tests once more. Last, some wrong changes of the package have to fail a test of each file.
 
 It takes the first Python, of the one that runs it and /usr/bin/python3, that is 3.11 or later with its header files, and has MODULES.
 """
@@ -45,8 +45,43 @@ WRONG = [
     ("test_column_calls.py::test_constant", "column_search.c", "    free(found.at);\n", ""),
     ("test_column_calls.py::test_lock_is_released", "column_reading.c", "UNLOCKED(len, failed = gather(", "((void)len, failed = gather("),
     ("test_column.py::test_types_in", "column_values.py", "is_wide = max(numbers, default=0) >= 1 << 63", "is_wide = False"),
+    ("test_column_inputs.py::test_columns", "column_values.py", "return objects_of(items) if", "return objects_of([*values]) if"),
+    ("test_inputs.py::test_integers", "values.py", "{bool, np.bool_}.isdisjoint(", "{bool}.isdisjoint("),
+    ("test_column_inputs.py::test_types_out", "values.py", "if min(numbers) < first or max(numbers) > last:", "if max(numbers) > last:"),
+    ("test_inputs.py::test_no_iterable", "values.py", "(str, bytes, bytearray, mmap.mmap)", "(bytes, bytearray, mmap.mmap)"),
+    ("test_limits.py::test_units", "limits.py", "month % (_MONTHS[unit] * count) == 0", "True"),
+    ("test_limits.py::test_outside_of_the_unit", "column.py", "min(self._limit(high, -1), last)", "self._limit(high, -1) & last"),
+    ("test_limits.py::test_fill", "column.py", "if value != below:", "if False:"),
+    ("test_query.py::test_any_depth", "query.py", "(yield _within(it, low, high))", "_run(_within(it, low, high)) if it else (yield)"),
+    ("test_query.py::test_parts_grow", "query.py", "            width = min(4 * width, _MOST) if", "            width = width if"),
+    ("test_id_set.py::test_buffers", "values.py", " and memoryview(data).c_contiguous else", " else"),
+    ("test_memory.py::test_slices", "column.py", "return found if abs(step) == 1 else found.copy()", "return found"),
+    ("test_machine.py", "column.py", "data = pickle.PickleBuffer(self.data) if protocol >= 5 else self.tobytes()", "data = self.tobytes()"),
+    ("test_machine.py", "column.py", "hash(bytes(self.data[:_START]))", "hash(bytes(self.data[:5]))"),
     ("test_column.py::test_searches", "column_search.c", "used += !(bits[at / 8] >> at % 8 & 1);", "used++;"),
 ]
+# Mistakes that type checkers have to see, one to a line.
+MISTAKES = """\
+from fimulowen import Column, IdSet, Query, chain, unite
+IdSet("abc")
+IdSet(1.5)
+IdSet([1.5])
+IdSet.open(5)
+IdSet.open("abc")
+IdSet() | "abc"
+IdSet().gather(5)
+IdSet().contains(["1"])
+IdSet().append([None])
+IdSet.pack_many("abc", [0])
+Query("abc")
+unite([1], 5)
+Column("abc")
+Column([0.5])
+Column([1], True)
+Column.open(5)
+chain.pack("abc")
+chain.unpack("abc", b"")
+"""
 # Seconds for a run of pytest, which has a tenth of a core beside proofs.
 PATIENCE = 1800
 
@@ -132,6 +167,10 @@ def typed(package):
         written(package.folder, {"typed.py": "".join(it.source for it in doctest.DocTestParser().get_examples(source(page)))})
         python = f"--python-executable={package.room}/bin/python"
         yield f"the types of {page}", failed(run("mypy", "--strict", python, "typed.py", folder=package.folder))
+    written(package.folder, {"typed.py": MISTAKES})
+    found = re.findall(r"^typed\.py:(\d+): error", run("mypy", "--strict", python, "typed.py", folder=package.folder).stdout, re.M)
+    lines = [str(it + 2) for it in range(MISTAKES.count("\n") - 1)]
+    yield "the mistakes that types show", other([*dict.fromkeys(found)], lines)
 
 
 def sanitized(package):

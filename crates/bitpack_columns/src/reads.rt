@@ -1,5 +1,7 @@
 //! What is read of an opened column: each mark, each width and each block that is unpacked counts in `Reads`. Its bytes are hidden from all
 //! other files.
+//!
+//! FORMAT.md, "Columns".
 
 ghost use Rattle.std.specs.Prelude.{◌≡◌, ℕ, ◌+◌, ◌-◌, ◌*◌, ◌/◌, ◌%◌, ◌^◌, ◌<◌, ◌≤◌, drop, length, min, slice_index, take};
 ghost use Rattle.std.specs.Borrow.{ftrue};

@@ -227,7 +227,7 @@ PyObject *Column_seek(PyObject *self, PyObject *target)
     if (PyErr_Occurred())
         return NULL;
     if (!of(self)->is_sorted)
-        return fail(BITPACKING_BAD_KIND);
+        return fail_as("The values of the column are not in order: sort them before they are packed, or ask `between`.", "BadKind");
     for (m = 0; m < of(self)->count; m++) {
         const Chunk *it = &of(self)->chunks[m];
         uint64_t least = it->least ^ of(self)->sign;

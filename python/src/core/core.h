@@ -47,6 +47,7 @@ extern PyObject *numpy_empty, *type_u32, *type_index, *type_bool, *Refusal, *ref
 
 /* errors.c: each sets an exception, and returns NULL. A position or number below 0 is None. */
 void *fail(ptrdiff_t fault);
+void *fail_as(const char *text, const char *fault);
 void *fail_at(ptrdiff_t fault, Py_ssize_t position, Py_ssize_t number);
 void *fail_to_open(ptrdiff_t fault, const uint8_t *bytes, size_t len, Py_ssize_t number);
 

@@ -64,6 +64,9 @@ void *fail_at(ptrdiff_t fault, Py_ssize_t position, Py_ssize_t number)
     return raise(made);
 }
 
+/* Raises Error(text, fault). */
+void *fail_as(const char *text, const char *fault) { return raise(PyObject_CallFunction(Refusal, "ss", text, fault)); }
+
 void *fail(ptrdiff_t fault) { return fail_at(fault, -1, -1); }
 
 /* Raises what fimulowen.errors.refused makes of the bytes of a set: it looks for the place of the fault, but not in many bytes. */

@@ -2,6 +2,9 @@
 #include "core.h"
 #include <string.h>
 
+/* From this step on the ids of a slice are found one by one. */
+enum { SPARSE = 512 };
+
 static bitpacking_set *view_of(PyObject *self) { return &((Set *)self)->view; }
 
 static size_t least_of(size_t one, size_t other) { return one < other ? one : other; }
@@ -38,18 +41,63 @@ static PyObject *range_of(PyObject *self, size_t from, size_t len)
     return array;
 }
 
-/* The ids of a slice with a step: every step-th id of the range that has them all. */
-static PyObject *stepped(PyObject *self, Py_ssize_t from, Py_ssize_t step, Py_ssize_t len)
+/* These ids in falling order, as a view of an array that has no others. */
+static PyObject *falling(PyObject *self, size_t from, size_t len)
 {
-    Py_ssize_t wide = len == 0 ? 0 : (len - 1) * (step > 0 ? step : -step) + 1;
-    PyObject *all = range_of(self, (size_t)(step > 0 || len == 0 ? from : from + (len - 1) * step), (size_t)wide);
-    PyObject *number = PyLong_FromSsize_t(step), *slice = number ? PySlice_New(NULL, NULL, number) : NULL;
-    PyObject *part = all && slice ? PyObject_GetItem(all, slice) : NULL;
+    PyObject *all = range_of(self, from, len), *step = PyLong_FromLong(-1), *slice = step ? PySlice_New(NULL, NULL, step) : NULL;
+    PyObject *view = all && slice ? PyObject_GetItem(all, slice) : NULL;
 
     Py_XDECREF(all);
-    Py_XDECREF(number);
+    Py_XDECREF(step);
     Py_XDECREF(slice);
-    return part;
+    return view;
+}
+
+/* Write len ids, whose positions are a step apart, from a position on: those of a short step out of unpacked ones, and others one by one. */
+static void write_near(const bitpacking_set *view, Py_ssize_t from, Py_ssize_t step, uint32_t *ids, size_t len)
+{
+    uint32_t part[MANY];
+    const size_t apart = (size_t)(step > 0 ? step : -step);
+    const uint32_t *at;
+    size_t done, count, i;
+
+    for (done = 0; done < len; done += count) {
+        count = least_of(len - done, (MANY - 1) / apart + 1);
+        bitpacking_set_slice(view, (size_t)(from + (Py_ssize_t)(step > 0 ? done : done + count - 1) * step), part, (count - 1) * apart + 1);
+        at = step > 0 ? part : part + (count - 1) * apart;
+        for (i = 0; i < count; i++)
+            ids[done + i] = at[(Py_ssize_t)i * step];
+    }
+}
+
+static void write_far(const bitpacking_set *view, Py_ssize_t from, Py_ssize_t step, uint32_t *ids, size_t len)
+{
+    size_t i;
+
+    for (i = 0; i < len; i++)
+        bitpacking_set_get(view, (size_t)(from + (Py_ssize_t)i * step), ids + i);
+}
+
+/* The ids of a slice with a step, as a new array. */
+static PyObject *stepped(PyObject *self, Py_ssize_t from, Py_ssize_t step, size_t len)
+{
+    const size_t apart = (size_t)(step > 0 ? step : -step), each = apart < SPARSE ? apart : 1;
+    void (*write)(const bitpacking_set *, Py_ssize_t, Py_ssize_t, uint32_t *, size_t) = apart < SPARSE ? write_near : write_far;
+    Py_buffer out;
+    PyObject *array = new_array(len, type_u32, &out);
+    size_t done, count;
+
+    for (done = 0; array && done < len; done += count) {
+        count = least_of(len - done, FEW);
+        UNLOCKED(count * each, write(view_of(self), from + (Py_ssize_t)done * step, step, (uint32_t *)out.buf + done, count));
+        if (PyErr_CheckSignals() < 0) {
+            PyBuffer_Release(&out);
+            Py_CLEAR(array);
+        }
+    }
+    if (array)
+        PyBuffer_Release(&out);
+    return array;
 }
 
 PyObject *Set_subscript(PyObject *self, PyObject *key)
@@ -59,7 +107,9 @@ PyObject *Set_subscript(PyObject *self, PyObject *key)
         if (PySlice_Unpack(key, &from, &to, &step) < 0)
             return NULL;
         len = PySlice_AdjustIndices(Set_length(self), &from, &to, step);
-        return step == 1 ? range_of(self, (size_t)from, (size_t)len) : stepped(self, from, step, len);
+        if (step == -1 && len > 0)
+            return falling(self, (size_t)(from + 1 - len), (size_t)len);
+        return step == 1 ? range_of(self, (size_t)from, (size_t)len) : stepped(self, from, step, (size_t)len);
     }
     if (PyIndex_Check(key)) {
         Py_ssize_t at = PyNumber_AsSsize_t(key, PyExc_IndexError);

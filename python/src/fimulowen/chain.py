@@ -5,13 +5,13 @@ A block has 32 values for each of its 1, 4 or 8 lanes. One block is a chain of o
 from __future__ import annotations
 
 import operator
-from typing import Any, Literal, Optional, SupportsIndex, Tuple
+from typing import Literal, Optional, SupportsIndex, Tuple
 
 import numpy as np
 import numpy.typing as npt
 
 from . import _core
-from .values import KINDS, u32
+from .values import KINDS, Bytes, Integers, u32
 
 Kind = Literal["plain", "sorted", "strict"]
 Lanes = Literal[1, 4, 8]
@@ -19,7 +19,7 @@ BLOCK_LEN = {1: 32, 4: 128, 8: 256}
 """How many values a block has, by its lanes."""
 
 
-def pack(values: npt.ArrayLike, *, kind: Kind = "plain", initial: Optional[SupportsIndex] = None, lanes: Lanes = 4) -> Tuple[bytes, bytes]:
+def pack(values: Integers, *, kind: Kind = "plain", initial: Optional[SupportsIndex] = None, lanes: Lanes = 4) -> Tuple[bytes, bytes]:
     """Packs whole blocks. Returns the width of each, a byte for each, and the bytes of all.
 
     `initial` is the number before the first value of a sorted or strict chain. It is 0 for sorted, and for strict None says that the first
@@ -28,7 +28,7 @@ def pack(values: npt.ArrayLike, *, kind: Kind = "plain", initial: Optional[Suppo
 
 
 def unpack(
-    widths: Any, data: Any, *, kind: Kind = "plain", initial: Optional[SupportsIndex] = None, lanes: Lanes = 4
+    widths: Bytes, data: Bytes, *, kind: Kind = "plain", initial: Optional[SupportsIndex] = None, lanes: Lanes = 4
 ) -> npt.NDArray[np.uint32]:
     """Unpacks the blocks of these widths, by the kind, initial number and lanes that they were packed with. `widths` and `data` are objects
     with a buffer. Any bytes are values, and bytes after the blocks are not read. Error if a width is above 32 or bytes are missing.

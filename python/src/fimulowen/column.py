@@ -2,8 +2,6 @@
 
 from __future__ import annotations
 
-import array
-import mmap
 import operator
 import pickle
 import struct
@@ -17,7 +15,8 @@ from . import _core
 from .column_values import STORED, UNITS, Numbers, integers_of
 from .errors import Error
 from .id_set import IdSet
-from .values import constant, index, room_for
+from .limits import numbers_beside
+from .values import Bytes, Integers, constant, index, need_fit, room_for
 
 CHUNK = 1 << 16
 _PART = 4096
@@ -35,21 +34,22 @@ _TEXTS = {
 }
 _ARROW = {"i": "l", "u": "L", "M": "ts{}:", "m": "tD{}"}
 _ARROW_UNITS = {"s": "s", "ms": "m", "us": "u", "ns": "n"}
-# What can be packed: an array, a masked one, an array or series of pandas, or integers and None. What can be opened.
+_SPARSE = 16  # from this step on the values of a slice are found one by one
+# What can be packed: an array, a masked one, an array or series of pandas, or integers, dates or spans, and None.
 Values = Union[np.ndarray, Iterable[Union[SupportsIndex, np.datetime64, np.timedelta64, None]]]
-Bytes = Union[bytes, bytearray, memoryview, mmap.mmap, np.ndarray, array.array]
 
 
 class Column(_core.Column):
     """Integers of 64 bits, with a sign or without, or dates or times of numpy, any of which may be missing. It does not change.
 
-    `values` is an array, or any iterable of integers and None. Missing are the values for which `missing` is true, None, NaT, NA of pandas, and
-    what a masked array masks. TypeError or OverflowError, with the position of the first value that is none."""
+    `values` is an array, or any iterable of integers, or of dates or spans of numpy, and None. Missing are the values for which `missing` is
+    true, None, NaT, NA of pandas, and what a masked array masks. TypeError or OverflowError, with the position of the first value that is none.
+    """
 
     __slots__ = ("_dtype",)
     __array_ufunc__ = None  # array == column must not depend on whether values are missing
 
-    def __new__(cls, values: Values = (), missing: Optional[npt.ArrayLike] = None) -> Column:
+    def __new__(cls, values: Values = (), missing: Optional[Iterable[Any]] = None) -> Column:
         numbers = _numbers_of(values, missing)
         return _assembled(cls, numbers.dtype, len(numbers.array), _packed(numbers))
 
@@ -115,8 +115,11 @@ class Column(_core.Column):
         count = len(range(start, stop, step))
         if count == 0:
             return self._range(0, 0)
+        if abs(step) >= _SPARSE:
+            return self.gather(np.arange(start, stop, step))
         first, last = sorted((start, start + (count - 1) * step))
-        return self._range(first, last + 1 - first)[:: step if step > 0 else step]
+        found = self._range(first, last + 1 - first)[::step]
+        return found if abs(step) == 1 else found.copy()  # it holds what it shows
 
     def __iter__(self) -> Iterator[Any]:
         for start in range(0, len(self), _PART):
@@ -131,7 +134,7 @@ class Column(_core.Column):
             raise ValueError("the values of a column are always copied")
         if self._missing and self._dtype.kind in "iu":
             raise ValueError("values are missing: unpack(fill=..) names one for them")
-        return np.asarray(self.unpack(), dtype)
+        return self.unpack(dtype=dtype)
 
     def __arrow_c_schema__(self) -> object:
         """The type of the column for Arrow, as a capsule."""
@@ -165,24 +168,27 @@ class Column(_core.Column):
 
     def _shown(self, numbers: np.ndarray, mask: Optional[np.ndarray], fill: Any) -> np.ndarray:
         """Numbers as an array for a caller, who named a value for those that are missing, or None."""
+        number = 0 if mask is None is fill else self._fill(fill)
         if mask is not None and (fill is not None or self._dtype.kind in "Mm"):
-            numbers[mask] = self._fill(fill)
+            numbers[mask] = number
         elif mask is not None:
             return np.ma.MaskedArray(numbers, mask)
         return numbers.view(self._dtype)
 
     def _fill(self, fill: Any) -> int:
         """The number that stands for missing values."""
-        if self._dtype.kind in "Mm":
-            return int(np.array("NaT" if fill is None else fill, self._dtype).view("i8"))
-        value, limits = operator.index(fill), np.iinfo(self._dtype)
-        if not limits.min <= value <= limits.max:
-            raise OverflowError(f"fill does not fit {self._dtype}")
+        is_number = self._dtype.kind in "iu"
+        if fill is None or not is_number and isinstance(fill, (np.datetime64, np.timedelta64)) and np.isnat(fill):
+            return 0 if is_number else -(1 << 63)  # NaT
+        value, below = (operator.index(fill),) * 2 if is_number else numbers_beside(fill, self._dtype)
+        if value != below:
+            raise ValueError(f"fill is between two values of {self._dtype}")
+        need_fit([value], self._dtype)
         return value
 
     def unpack(self, out: Optional[np.ndarray] = None, dtype: npt.DTypeLike = None, fill: Any = None) -> np.ndarray:
         """All values, as an array of the type of the column, or of another one. They go to the front of `out` if there is one: the call returns
-        the part of it that has them. OverflowError if a value does not fit another type of integers.
+        the part of it that has them. OverflowError if a value or `fill` does not fit the type.
 
         Missing values are NaT, or `fill`, or the array is a masked one if there is no `fill`; an `out` needs it."""
         wanted = room_for(len(self), out, dtype).dtype if out is not None else np.dtype(self._dtype if dtype is None else dtype)
@@ -197,7 +203,7 @@ class Column(_core.Column):
 
     def _unpack_to(self, out: np.ndarray, fill: Any) -> np.ndarray:
         if out.dtype == self._dtype and out.flags.c_contiguous and out.flags.aligned:
-            self._read(out.view(STORED[self._dtype.kind]), 0, self._fill(fill) if self._missing else 0)
+            self._read(out.view(STORED[self._dtype.kind]), 0, self._fill(fill))
             return out
         for start in range(0, len(out), CHUNK):
             part = out[start : start + CHUNK]
@@ -205,14 +211,16 @@ class Column(_core.Column):
         return out
 
     def _need_fit(self, wanted: np.dtype, fill: Any) -> None:
-        limits, both = self._limits(), "iu"
-        if wanted == self._dtype or self._dtype.kind not in both or wanted.kind not in both or limits is None:
+        shown = [] if fill is None else [self._fill(fill)]
+        if wanted == self._dtype:
             return
-        least, greatest = limits if fill is None else (min(limits[0], fill), max(limits[1], fill))
-        if not np.iinfo(wanted).min <= least <= greatest <= np.iinfo(wanted).max:
-            raise OverflowError(f"the values from {least} to {greatest} do not fit {wanted}")
+        shown += self._limits() or ()
+        if wanted.kind in "Mm" and wanted.kind == self._dtype.kind and np.datetime_data(wanted)[0] != "generic":
+            there = [it for it in map(self._scalar, shown) if not np.isnat(it)]
+            shown = [numbers_beside(it, wanted)[1] for it in there]
+        need_fit(shown, wanted)
 
-    def gather(self, positions: npt.ArrayLike, fill: Any = None) -> np.ndarray:
+    def gather(self, positions: Integers, fill: Any = None) -> np.ndarray:
         """The values at positions in any order, as an array. A position below 0 counts from the end. Missing values are as in `unpack`.
         IndexError if a position is not in the column."""
         at = index(positions, len(self))
@@ -222,17 +230,7 @@ class Column(_core.Column):
 
     def _limit(self, value: Any, step: int) -> int:
         """A limit as a number. A date or time between two of the column becomes the next one in the direction of the step."""
-        if self._dtype.kind in "iu":
-            return operator.index(value)
-        date = np.array(value)
-        if date.dtype.kind in "OU":
-            date = np.array(value, f"{self._dtype.kind}8")
-        if date.dtype.kind != self._dtype.kind:
-            raise TypeError(f"a limit of {self._dtype} expected, not {type(value).__name__}")
-        if np.isnat(date):
-            raise ValueError("NaT is no limit")
-        found = date.astype(self._dtype)
-        return int(found.view("i8")) + (step if (found < date if step > 0 else found > date) else 0)
+        return operator.index(value) if self._dtype.kind in "iu" else numbers_beside(value, self._dtype)[step < 0]
 
     def _within(self, low: Any, high: Any) -> Optional[Tuple[int, int]]:
         """Limits that fit the type, or None if no value can be within them."""
@@ -280,7 +278,7 @@ class Column(_core.Column):
         table = _table(self.data, len(self))
         return np.stack([table["least"], table["greatest"]], axis=1).astype("=u8").view(self._dtype)
 
-    def append(self, values: Values, missing: Optional[npt.ArrayLike] = None) -> Column:
+    def append(self, values: Values, missing: Optional[Iterable[Any]] = None) -> Column:
         """A new column of these values and more after them. Whole chunks are copied, and only the values after them packed."""
         whole, table = len(self) // CHUNK, _table(self.data, len(self))
         start = whole * CHUNK
@@ -292,7 +290,7 @@ class Column(_core.Column):
         return _assembled(type(self), self._dtype, start + len(more.array), old + _packed(more))
 
 
-def _numbers_of(values: Values, missing: Optional[npt.ArrayLike]) -> Numbers:
+def _numbers_of(values: Values, missing: Optional[Iterable[Any]]) -> Numbers:
     if isinstance(values, Column):
         numbers, mask = values._numbers(0, len(values))
         values = np.ma.MaskedArray(numbers.view(values.dtype), np.ma.nomask if mask is None else mask)

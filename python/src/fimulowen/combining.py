@@ -3,52 +3,53 @@
 from __future__ import annotations
 
 from functools import reduce
-from typing import Any, Iterable, Tuple
+from typing import Tuple
 
 import numpy as np
 import numpy.typing as npt
 
 from .id_set import INTERSECT, SUBTRACT, UNITE, XOR, IdSet, as_set, combined, counted
+from .values import Integers
 
 
-def intersect(*sets: Iterable[Any]) -> npt.NDArray[np.uint32]:
+def intersect(*sets: Integers) -> npt.NDArray[np.uint32]:
     """The ids that all sets have, as an array."""
     return combined(INTERSECT, _sets(sets))
 
 
-def unite(*sets: Iterable[Any]) -> npt.NDArray[np.uint32]:
+def unite(*sets: Integers) -> npt.NDArray[np.uint32]:
     """The ids that any set has, as an array, each once."""
     return combined(UNITE, _sets(sets))
 
 
-def subtract(first: Iterable[Any], *others: Iterable[Any]) -> npt.NDArray[np.uint32]:
+def subtract(first: Integers, *others: Integers) -> npt.NDArray[np.uint32]:
     """The ids that only the first set has, as an array."""
     return combined(SUBTRACT, _sets((first, *others)))
 
 
-def symmetric_difference(*sets: Iterable[Any]) -> npt.NDArray[np.uint32]:
+def symmetric_difference(*sets: Integers) -> npt.NDArray[np.uint32]:
     """The ids that an odd number of the sets have, as an array: of two sets, those that one of them has."""
     *before, last = _sets(sets) or (IdSet(),)
     return combined(XOR, (reduce(lambda one, other: one ^ other, before), last)) if before else last.unpack()
 
 
-def intersect_len(*sets: Iterable[Any]) -> int:
+def intersect_len(*sets: Integers) -> int:
     """How many ids all sets have."""
     return counted(INTERSECT, _sets(sets))
 
 
-def unite_len(*sets: Iterable[Any]) -> int:
+def unite_len(*sets: Integers) -> int:
     """How many ids any set has."""
     return counted(UNITE, _sets(sets))
 
 
-def subtract_len(first: Iterable[Any], *others: Iterable[Any]) -> int:
+def subtract_len(first: Integers, *others: Integers) -> int:
     """How many ids only the first set has."""
     one, *rest = _sets((first, *others))
     return len(one) - intersect_len(one, *rest) if len(rest) == 1 else unite_len(one, *rest) - unite_len(*rest)
 
 
-def symmetric_difference_len(*sets: Iterable[Any]) -> int:
+def symmetric_difference_len(*sets: Integers) -> int:
     """How many ids an odd number of the sets have."""
     *before, last = _sets(sets) or (IdSet(),)
     if not before:
@@ -57,5 +58,5 @@ def symmetric_difference_len(*sets: Iterable[Any]) -> int:
     return len(one) + len(last) - 2 * intersect_len(one, last)
 
 
-def _sets(operands: Tuple[Iterable[Any], ...]) -> Tuple[IdSet, ...]:
+def _sets(operands: Tuple[Integers, ...]) -> Tuple[IdSet, ...]:
     return tuple(map(as_set, operands))

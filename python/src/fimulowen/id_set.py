@@ -4,13 +4,13 @@ from __future__ import annotations
 
 import hashlib
 import pickle
-from typing import Any, Iterable, Iterator, List, Optional, Sequence, SupportsIndex, Tuple, Union
+from typing import Any, Iterator, List, Optional, Sequence, SupportsIndex, Tuple
 
 import numpy as np
 import numpy.typing as npt
 
 from . import _core, waiting
-from .values import MOST, PART, constant, index, room_for, u32
+from .values import MOST, PART, Bytes, Integers, constant, fitted, index, room_for, u32
 
 INTERSECT, UNITE, SUBTRACT, XOR = range(4)
 _FEW = 4096
@@ -26,7 +26,7 @@ class IdSet(_core.Set):
     __slots__ = ()
     __array_ufunc__ = None  # array & set must not be a bitwise AND of numbers
 
-    def __new__(cls, ids: Union[Iterable[Any], npt.ArrayLike] = ()) -> IdSet:
+    def __new__(cls, ids: Integers = ()) -> IdSet:
         if isinstance(ids, IdSet):
             return ids if type(ids) is cls else cls.open(ids.data)
         return cls._packed(u32(ids))
@@ -41,19 +41,19 @@ class IdSet(_core.Set):
         return parts[0] if len(parts) == 1 else waiting.run(len(ids), _core.set_pack, cls, combined(UNITE, parts))
 
     @classmethod
-    def open(cls, data: Any) -> IdSet:
+    def open(cls, data: Bytes) -> IdSet:
         """Opens the bytes of a set, of any object with a buffer. It tests all of them, and raises Error with the first fault. Memory that
         nothing can write (bytes, a map that is read only) is held, and must not change; other memory is copied."""
         held = constant(data)
         return waiting.run(memoryview(held).nbytes, _core.set_open, cls, held)
 
     @classmethod
-    def open_many(cls, data: Any, bounds: npt.ArrayLike) -> List[IdSet]:
+    def open_many(cls, data: Bytes, bounds: Integers) -> List[IdSet]:
         """The sets at data[bounds[i]:bounds[i + 1]], which all share the one buffer. Error, with the number of the set."""
         return _core.set_open_many(cls, constant(data), index(bounds))
 
     @staticmethod
-    def pack_many(ids: npt.ArrayLike, bounds: npt.ArrayLike) -> Tuple[bytes, npt.NDArray[np.int64]]:
+    def pack_many(ids: Integers, bounds: Integers) -> Tuple[bytes, npt.NDArray[np.int64]]:
         """Packs the set of ids[bounds[i]:bounds[i + 1]] for each i. Returns the bytes of all sets, and the bounds of the sets in them. The ids
         of each set increase.
 
@@ -61,36 +61,36 @@ class IdSet(_core.Set):
         is not above the one before it."""
         return _core.set_pack_many(u32(ids), index(bounds))
 
-    def __and__(self, other: Iterable[Any]) -> IdSet:
+    def __and__(self, other: Integers) -> IdSet:
         """The ids of both."""
         return _joined(INTERSECT, self, other)
 
-    def __or__(self, other: Iterable[Any]) -> IdSet:
+    def __or__(self, other: Integers) -> IdSet:
         """The ids of either. Error if there are more than 268,435,456."""
         return _joined(UNITE, self, other)
 
-    def __sub__(self, other: Iterable[Any]) -> IdSet:
+    def __sub__(self, other: Integers) -> IdSet:
         """The ids that only the first has."""
         return _joined(SUBTRACT, self, other)
 
-    def __xor__(self, other: Iterable[Any]) -> IdSet:
+    def __xor__(self, other: Integers) -> IdSet:
         """The ids that one of the two has. Error if there are more than 268,435,456."""
         return _joined(XOR, self, other)
 
-    def __rsub__(self, other: Iterable[Any]) -> IdSet:
+    def __rsub__(self, other: Integers) -> IdSet:
         return _joined(SUBTRACT, other, self)
 
     __rand__, __ror__, __rxor__ = __and__, __or__, __xor__
 
-    def isdisjoint(self, other: Iterable[Any]) -> bool:
+    def isdisjoint(self, other: Integers) -> bool:
         """Whether no id is in both."""
         return self._is_disjoint(as_set(other))
 
-    def issubset(self, other: Iterable[Any]) -> bool:
+    def issubset(self, other: Integers) -> bool:
         """Whether the other has all ids of this set, as `self <= other` says of two sets."""
         return self <= as_set(other)
 
-    def issuperset(self, other: Iterable[Any]) -> bool:
+    def issuperset(self, other: Integers) -> bool:
         """Whether this set has all ids of the other, as `self >= other` says of two sets."""
         return self >= as_set(other)
 
@@ -125,13 +125,13 @@ class IdSet(_core.Set):
         return type(self).open, (pickle.PickleBuffer(self.data) if protocol >= 5 else self.tobytes(),), getattr(self, "__dict__", None)
 
     def unpack(self, out: Optional[np.ndarray] = None, dtype: npt.DTypeLike = None) -> np.ndarray:
-        """All ids, as an array of uint32, or of another type. They go to the front of `out` if there is one: an array in C order of uint32,
-        int64 or uint64, with room for all. Returns the part of it that has them."""
+        """All ids, as an array of uint32, or of another type: OverflowError if an id does not fit it. They go to the front of `out` if there is
+        one: an array in C order of uint32, int64 or uint64, with room for all. Returns the part of it that has them."""
         wanted = np.dtype(np.uint32 if dtype is None else dtype)
         if out is None and wanted in (np.dtype("i8"), np.dtype("u8")):
             out = np.empty(len(self), wanted)
         elif out is None:
-            return self[:].astype(wanted, copy=False)
+            return self[:] if dtype is None else fitted(self[:], wanted)
         return room_for(len(self), out, dtype)[: self._read(out)]
 
     def min(self) -> int:
@@ -151,24 +151,24 @@ class IdSet(_core.Set):
         """The ids from low up to high, which is not one of them, as an array."""
         return self[self.rank(low) : self.rank(high)]
 
-    def gather(self, positions: npt.ArrayLike) -> npt.NDArray[np.uint32]:
+    def gather(self, positions: Integers) -> npt.NDArray[np.uint32]:
         """The ids at positions in any order, as an array; those below 0 count from the end. IndexError if one is not in the set."""
         return self._gather(index(positions, len(self)))
 
-    def contains(self, ids: npt.ArrayLike) -> npt.NDArray[np.bool_]:
+    def contains(self, ids: Integers) -> npt.NDArray[np.bool_]:
         """Whether the set has each of many integers, as an array."""
         wide = index(ids)
         found = self._contains(wide.astype("=u4"))
         return found & (wide >= 0) & (wide <= 0xFFFFFFFF)
 
-    def append(self, ids: npt.ArrayLike) -> IdSet:
+    def append(self, ids: Integers) -> IdSet:
         """A set with these ids too, which increase, and are all above the greatest id. It copies the packed bytes, and unpacks few of them. Error,
         with the position of the first id that is not above the one before it; `self | ids` accepts any."""
         more = u32(ids)
         return waiting.run(len(self) + len(more), _core.set_append, IdSet, self, more)
 
 
-def as_set(it: Iterable[Any]) -> IdSet:
+def as_set(it: Integers) -> IdSet:
     return it if isinstance(it, IdSet) else IdSet(it)
 
 

@@ -3,17 +3,21 @@
 from __future__ import annotations
 
 import operator
-from typing import Any, Callable, Iterable, Iterator, Optional, SupportsIndex, Tuple, Union
+from typing import Any, Callable, Generator, Iterator, List, Optional, SupportsIndex, Tuple, Type, Union
 
 import numpy as np
 import numpy.typing as npt
 
 from .combining import intersect, subtract, symmetric_difference, unite
 from .id_set import IdSet, as_set
+from .values import Integers, fitted
 
 # A set, or a call with its operands.
 _Node = Union[IdSet, Tuple[Callable[..., np.ndarray], Tuple[Any, ...]]]
+# A recursive call as `_run` runs it: it yields the calls that it waits for.
+_Steps = Generator[Any, Any, Any]
 _LEAST, _MOST, _FEW, _MANY = 1 << 16, 1 << 24, 1 << 12, 1 << 17
+_SIGNS = {intersect: "&", unite: "|", subtract: "-", symmetric_difference: "^"}
 
 
 class Query:
@@ -26,31 +30,31 @@ class Query:
     __slots__ = ("_node",)
     __array_ufunc__ = None  # array & query must not be a bitwise AND of numbers
 
-    def __init__(self, ids: Iterable[Any]):
+    def __init__(self, ids: Integers):
         self._node: _Node = ids._node if isinstance(ids, Query) else as_set(ids)
 
-    def __and__(self, other: Iterable[Any]) -> Query:
+    def __and__(self, other: Integers) -> Query:
         return _joined(intersect, self, other)
 
-    def __or__(self, other: Iterable[Any]) -> Query:
+    def __or__(self, other: Integers) -> Query:
         return _joined(unite, self, other)
 
-    def __sub__(self, other: Iterable[Any]) -> Query:
+    def __sub__(self, other: Integers) -> Query:
         return _joined(subtract, self, other)
 
-    def __xor__(self, other: Iterable[Any]) -> Query:
+    def __xor__(self, other: Integers) -> Query:
         return _joined(symmetric_difference, self, other)
 
-    def __rsub__(self, other: Iterable[Any]) -> Query:
+    def __rsub__(self, other: Integers) -> Query:
         return _joined(subtract, other, self)
 
     __rand__, __ror__, __rxor__ = __and__, __or__, __xor__
 
     def parts(self, start: SupportsIndex = 0) -> Iterator[npt.NDArray[np.uint32]]:
         """The ids from `start` on, as arrays that follow one another, none of which is empty."""
-        low, width, end = max(0, operator.index(start)), _LEAST, _end(self._node)
+        low, width, end = max(0, operator.index(start)), _LEAST, _run(_end(self._node))
         while low < end:
-            found = _within(self._node, low, low + width)
+            found = _run(_within(self._node, low, low + width))
             if len(found):
                 yield found
             low += width
@@ -79,7 +83,13 @@ class Query:
     def __array__(self, dtype: npt.DTypeLike = None, copy: Optional[bool] = None) -> np.ndarray:
         if copy is False:
             raise ValueError("the ids of a query are found anew")
-        return np.asarray(self.unpack(), dtype)
+        return fitted(self.unpack(), np.dtype("u4" if dtype is None else dtype))
+
+    def __repr__(self) -> str:
+        return f"<Query of {_shown(self._node, 2)}>"
+
+    def __reduce__(self) -> Tuple[Any, ...]:
+        return _query_of, (type(self), _postfix(self._node)), getattr(self, "__dict__", None)
 
 
 def _joined(call: Callable[..., np.ndarray], one: Any, other: Any) -> Any:
@@ -92,16 +102,31 @@ def _joined(call: Callable[..., np.ndarray], one: Any, other: Any) -> Any:
     return made
 
 
-def _end(node: _Node) -> int:
+def _run(steps: _Steps) -> Any:
+    """What a recursive call returns. A list has the calls that wait, so that a query may have any depth."""
+    waiting, answer = [steps], None
+    while waiting:
+        try:
+            waiting.append(waiting[-1].send(answer))
+            answer = None
+        except StopIteration as done:
+            waiting.pop()
+            answer = done.value
+    return answer
+
+
+def _end(node: _Node) -> _Steps:
     """A number above all ids of the node."""
     if isinstance(node, IdSet):
         return node.max() + 1 if node else 0
     call, operands = node
-    ends = [_end(it) for it in operands]
+    ends = []
+    for it in operands:
+        ends.append(it.max() + 1 if isinstance(it, IdSet) and it else (yield _end(it)))
     return min(ends) if call is intersect else ends[0] if call is subtract else max(ends)
 
 
-def _within(node: _Node, low: int, high: int) -> npt.NDArray[np.uint32]:
+def _within(node: _Node, low: int, high: int) -> _Steps:
     """The ids of the node from `low` up to `high`."""
     if isinstance(node, IdSet):
         return node.range(low, high)
@@ -113,5 +138,41 @@ def _within(node: _Node, low: int, high: int) -> npt.NDArray[np.uint32]:
     for it in operands:
         if is_cut and found and not found[0]:
             return found[0].unpack()
-        found.append(it if is_cut and found and isinstance(it, IdSet) else IdSet._packed(_within(it, low, high)))
+        if not isinstance(it, IdSet):
+            found.append(IdSet._packed((yield _within(it, low, high))))
+        else:
+            found.append(it if is_cut and found else IdSet._packed(it.range(low, high)))
     return call(*found)
+
+
+def _postfix(node: _Node) -> List[Any]:
+    """Each set of the node, and after its operands each call with their number."""
+    steps: List[Any] = []
+    waiting = [node]
+    while waiting:
+        it = waiting.pop()
+        if isinstance(it, IdSet):
+            steps.append(it)
+        else:
+            steps.append((it[0], len(it[1])))
+            waiting.extend(it[1])
+    return steps[::-1]
+
+
+def _query_of(kind: Type[Query], steps: List[Any]) -> Query:
+    """The query of the steps that `_postfix` returns."""
+    made, waiting = kind(()), []
+    for it in steps:
+        first = len(waiting) - it[1] if isinstance(it, tuple) else len(waiting)
+        operands = tuple(waiting[first:])
+        waiting[first:] = [(it[0], operands) if operands else it]
+    made._node = waiting[0]
+    return made
+
+
+def _shown(node: _Node, levels: int) -> str:
+    """The first operands of the node, and of some levels below it."""
+    if isinstance(node, IdSet):
+        return f"{len(node)} ids"
+    shown = [_shown(it, 0) if isinstance(it, IdSet) else f"({_shown(it, levels - 1)})" if levels else ".." for it in node[1][:4]]
+    return f" {_SIGNS[node[0]]} ".join(shown) + " .." * (len(node[1]) > 4)

@@ -3,16 +3,21 @@ writes."""
 
 from __future__ import annotations
 
+import array
 import mmap
 import operator
+import pickle
 from itertools import islice
-from typing import Any, Iterator, NoReturn, Optional, Tuple
+from typing import Any, Iterable, Iterator, NoReturn, Optional, Sequence, SupportsIndex, Tuple, Union
 
 import numpy as np
 import numpy.typing as npt
 
 from .errors import Error
 
+# Integers that a caller passes, and bytes. An array of numpy is an iterable too.
+Integers = Iterable[SupportsIndex]
+Bytes = Union[bytes, bytearray, memoryview, mmap.mmap, np.ndarray, array.array, pickle.PickleBuffer]
 KINDS = {"plain": 0, "sorted": 1, "strict": 2}
 PART, MOST = 1 << 20, 1 << 28
 _GREATEST, _LEAST = 0xFFFFFFFF, -(1 << 63)
@@ -36,8 +41,8 @@ def is_constant(data: Any) -> bool:
 
 
 def constant(data: Any) -> Any:
-    """The object, or a copy of its bytes if another thread can write them."""
-    return data if is_constant(data) else memoryview(data).tobytes()
+    """The object, or a copy of its bytes if another thread can write them, or if they are not one after another."""
+    return data if is_constant(data) and memoryview(data).c_contiguous else memoryview(data).tobytes()
 
 
 def u32(values: Any) -> npt.NDArray[np.uint32]:
@@ -80,13 +85,36 @@ def room_for(count: int, out: Any, dtype: npt.DTypeLike = None) -> np.ndarray:
     return out
 
 
+def need_fit(numbers: Sequence[int], dtype: np.dtype) -> None:
+    """OverflowError if another type lacks one of the integers. TypeError if it is none of numbers."""
+    if dtype.kind in "SUV" and dtype.itemsize:
+        raise TypeError(f"integers are no values of {dtype}")
+    if not numbers or dtype.kind in "SUVO":
+        return
+    limits: Any = np.finfo(dtype) if dtype.kind in "fc" else np.iinfo(dtype if dtype.kind in "iu" else "i8")
+    first, last = (0, 1) if dtype.kind == "b" else (int(limits.min) + (dtype.kind in "mM"), int(limits.max))  # the least date is NaT
+    if min(numbers) < first or max(numbers) > last:
+        raise OverflowError(f"the values from {min(numbers)} to {max(numbers)} do not fit {dtype}")
+
+
+def fitted(ids: npt.NDArray[np.uint32], dtype: np.dtype) -> np.ndarray:
+    """Increasing ids as an array of another type. OverflowError if it lacks one."""
+    need_fit([int(ids[0]), int(ids[-1])] if len(ids) else [], dtype)
+    return ids.astype(dtype, copy=False)
+
+
+def refuse_bytes(values: Any) -> None:
+    """TypeError for texts, and for bytes, which may be those of a set or a column."""
+    if isinstance(values, (str, bytes, bytearray, mmap.mmap)) or isinstance(values, memoryview) and values.format == "B":
+        raise TypeError(f"integers expected, not {type(values).__name__}: packed bytes are opened by `open`")
+
+
 def as_array(values: Any) -> Optional[np.ndarray]:
     """What has the interface of arrays as an array of integers of one dimension, or None if its values are objects, or it is another iterable."""
-    if isinstance(values, (bytes, bytearray, mmap.mmap)) or isinstance(values, memoryview) and values.format == "B":
-        raise TypeError(f"integers expected, not {type(values).__name__}: packed bytes are opened by `open`")
+    refuse_bytes(values)
     if isinstance(values, np.ma.MaskedArray) and np.ma.is_masked(values):
         raise ValueError("values are missing")
-    if not _has_array(values):
+    if not has_array(values):
         iter(values)
         return None
     array = np.asarray(values)
@@ -99,7 +127,8 @@ def as_array(values: Any) -> Optional[np.ndarray]:
     return np.empty(0, "=u4")
 
 
-def _has_array(values: Any) -> bool:
+def has_array(values: Any) -> bool:
+    """Whether it has the interface of arrays, or a buffer."""
     try:
         return hasattr(values, "__array__") or hasattr(values, "__array_interface__") or bool(memoryview(values).format)
     except TypeError:
@@ -113,22 +142,32 @@ def _parts(values: Any) -> Iterator[Tuple[int, np.ndarray]]:
         part = values[at : at + PART] if isinstance(values, range) else list(islice(rest, PART))
         if not part:
             return
-        yield at, _array_of(part)
+        yield at, array_of(part)
         at += len(part)
 
 
-def _array_of(part: Any) -> np.ndarray:
+def array_of(part: Any) -> np.ndarray:
     """A range or a list as an array of integers, or of objects if numpy makes another one of it."""
     try:
         array = np.arange(part.start, part.stop, part.step) if isinstance(part, range) else np.array(part)
-        if array.dtype.kind in "iu" and array.ndim == 1:
+        if array.dtype.kind in "iu" and array.ndim == 1 and not _has_bool(part, array):
             return array
     except (OverflowError, ValueError):
         pass
-    return _objects(part)
+    return objects_of(part)
 
 
-def _objects(part: Any) -> np.ndarray:
+def _has_bool(part: Any, array: np.ndarray) -> bool:
+    """Whether one of the items is a bool, which is 0 or 1 in an array of integers."""
+    some = () if isinstance(part, range) else part
+    if len(some) > 1000:  # to look at each takes longer
+        at = np.flatnonzero((array == 0) | (array == 1))
+        some = some if 8 * len(at) > len(some) else list(map(some.__getitem__, at))
+    return not {bool, np.bool_}.isdisjoint(set(map(type, some)))
+
+
+def objects_of(part: Any) -> np.ndarray:
+    """A list or a range as an array of objects."""
     array = np.empty(len(part), object)
     array[:] = part
     return array

@@ -1,4 +1,6 @@
 //! The blocks of a column and its tail. Functions of `reads` call these, and count what they read.
+//!
+//! FORMAT.md, "Columns".
 
 ghost use Rattle.std.specs.Prelude.{◌≡◌, ℕ, ◌+◌, ◌-◌, ◌*◌, ◌%◌, ◌^◌, ◌<◌, ◌≤◌, drop, length, min, slice_index, take};
 ghost use Rattle.bitpack_columns.specs.declared.column_kind.ColumnKind.TheVariants.{Plain, Sorted};

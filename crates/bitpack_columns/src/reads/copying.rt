@@ -1,4 +1,6 @@
 //! The whole blocks of a column, copied to another one that begins with them. To copy their bodies counts as to unpack them.
+//!
+//! FORMAT.md, "Columns".
 
 ghost use Rattle.std.specs.Prelude.{◌≡◌, ◌+◌, ◌*◌, ◌/◌, ◌<◌, ◌≤◌, length, slice_index};
 ghost use Rattle.bitpack_columns.specs.Columns.{mark_in, sum_to};
