@@ -100,7 +100,8 @@ fn crossing(tokens: &[Token], module: &str, file: &str) -> Result<Vec<Change>, W
 
 /// What a module shows to itself alone, for both copies of it.
 fn seen_by_both(tokens: &[Token], at: usize) -> Option<Change> {
-    phrase(tokens, at, "pub ( in crate : : $ )").map(|end| (at, end - at, "pub(crate)".into()))
+    let end = phrase(tokens, at, "pub ( in crate : : $ )").or(phrase(tokens, at, "pub ( super )"));
+    end.map(|end| (at, end - at, "pub(crate)".into()))
 }
 
 /// A path into a module that has a second copy, and what the first copy has to see of the second.

@@ -7,7 +7,7 @@ use std::io;
 use std::path::{Path, PathBuf};
 use std::thread;
 
-use crate::levels::COPIED;
+use crate::levels::{self, COPIED};
 use crate::paths::{CRATES, Module};
 use crate::{Wrong, copies, in_rust, unchecked};
 
@@ -30,6 +30,9 @@ pub fn translate(crates: &Path, out: &Path, twice: bool) -> Result<usize, Wrong>
     for part in parts {
         made.append(&mut part?);
     }
+    if let Some((module, file)) = levels::files().find(|it| twice && !made.contains_key(&second(it))) {
+        return Err(failed(Path::new(file), format!("no such file of '{module}', which levels.rs names")));
+    }
     write_all(out, &made)?;
     Ok(made.len())
 }
@@ -47,7 +50,7 @@ fn of_crate(crates: &Path, module: Module, twice: bool) -> Result<Files, Wrong> 
             made.insert(place, text);
             continue;
         }
-        made.insert(Path::new("v3").join(&place), copies::second(&text, module.name, &file).map_err(named)?);
+        made.insert(second(&(module.name, &file)), copies::second(&text, module.name, &file).map_err(named)?);
         made.insert(place, copies::first(&text, module.name, &file).map_err(named)?);
     }
     Ok(made)
@@ -79,6 +82,12 @@ fn failed(path: &Path, why: impl ToString) -> Wrong {
 fn place(module: Module, path: &Path) -> PathBuf {
     let folder = Path::new(module.name);
     if path == Path::new("lib.rt") { folder.with_extension("rs") } else { folder.join(path).with_extension("rs") }
+}
+
+/// The path of a file of the second copy of a module.
+fn second((module, file): &(&str, &str)) -> PathBuf {
+    let folder = Path::new("v3").join(module);
+    if *file == "lib.rt" { folder.with_extension("rs") } else { folder.join(file).with_extension("rs") }
 }
 
 fn read(path: &Path) -> Result<String, Wrong> {

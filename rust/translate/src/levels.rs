@@ -73,10 +73,16 @@ pub const ENTRIES: [Entries; 24] = [
     entries(("columns", "column/copying.rt"), "Column", &["append_to", "copy_to", "copy_range"]),
     entries(("columns", "column/search.rt"), "Column", &["seek"]),
     entries(("columns", "column/getting.rt"), "Column", &["get", "gather"]),
-    entries(("columns", "column/blocks.rt"), "Column", &["read_block"]),
+    entries(("columns", "reads/blocks.rt"), "Column", &["read_block"]),
     entries(("ranking", "ranking.rt"), "ranking", &["best"]),
     entries(("ranking", "among.rt"), "among", &["best_among"]),
 ];
 
 /// Functions that the first copy calls and that are always inlined there: in the second copy they are functions with its features.
 pub const CALLED: [(File, &str); 1] = [(("bitpacking", "kernel/least_width.rt"), "width")];
+
+/// The files that the lists name.
+pub fn files() -> impl Iterator<Item = File> {
+    let called = CALLED.iter().map(|it| it.0).chain(ENTRIES.iter().map(|it| it.file));
+    SHARED.iter().chain(&CROSSING).map(|it| it.0).chain(called)
+}

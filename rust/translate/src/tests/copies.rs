@@ -54,7 +54,7 @@ fn paths_lead_to_the_second_copy() {
     becomes("use crate::groups::one;\nuse crate::simd::*;\n", "use crate::v3::groups::one;\nuse crate::simd::v3::*;\n");
     becomes("use crate::index::Proved;\n", "use crate::index::Proved;\n");
     becomes("mod one;\npub mod two;\n", "pub(crate) mod one;\npub mod two;\n");
-    becomes("pub(in crate::sets) struct One;\n", "pub(crate) struct One;\n");
+    becomes("pub(in crate::sets) struct One;\npub(super) fn one();\n", "pub(crate) struct One;\npub(crate) fn one();\n");
 }
 
 #[test]
