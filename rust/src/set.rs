@@ -17,8 +17,17 @@
 //! # Ok::<(), bitpacking::set::Error>(())
 //! ```
 //!
-//! [`IdSet`] has the calls that read, and is always behind a reference, as a `str` is. [`IdSetBuf`] owns or borrows the bytes of a set. Sets do
-//! not change: a call that combines them or appends ids returns another set.
+//! [`IdSet`] has the calls that read, and is always behind a reference, as a `str` is. [`IdSetBuf`] owns or borrows the bytes of a set. The bytes
+//! of a set do not change: a call that combines sets or appends ids returns another set, and `|=` and `extend` replace a set by another one.
+//!
+//! ```
+//! use bitpacking::set::IdSetBuf;
+//!
+//! let [cats, dogs, old] = [[1, 4], [4, 6], [6, 9]].map(IdSetBuf::from);
+//! let mut all = &cats | &dogs | &old;
+//! all -= cats;
+//! assert_eq!(all.unpack(), [6, 9]);
+//! ```
 //!
 //! # Sizes
 //!
@@ -161,7 +170,7 @@ impl IdSet {
     ///
     /// # Errors
     ///
-    /// The first fault of the bytes, in the order of `docs/FORMAT.md`.
+    /// The first fault of the bytes, in the order of `docs/FORMAT.md` of the repository.
     ///
     /// ```
     /// use bitpacking::set::{Error, IdSet};
