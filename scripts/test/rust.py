@@ -29,6 +29,8 @@ EXAMPLES = {
     "block": f"32 bytes for {[*range(0, 384, 3)]}\n",
     # Gaps of 2 and 4 in turn: one less are 1 and 3, two bits each, and so 2 * 16 bytes for each block of 128.
     "posting_list": "300 numbers: [2, 2] bits, 64 bytes, 44 numbers as they are\n",
+    # The bytes that FORMAT works.
+    "shared": "[7, 9, 10, 300]\n",
     # 300 is at position 3.
     "set": "from 100 on: Some((3, 300)), in both: [9, 300]\n",
     # 199 and 205 are below 210.

@@ -66,6 +66,7 @@ fn cloned_and_owned() {
     }
     let bytes = IdSetBuf::pack(&[7, 9, 10, 300]).unwrap().into_bytes();
     cloned(IdSetBuf::open(&bytes[..]).unwrap());
+    cloned(IdSetBuf::open(&[0x84, 7, 9, 1, 0, 0x84, 4]).unwrap());
     cloned(IdSetBuf::open(Rc::<[u8]>::from(&bytes[..])).unwrap());
     cloned(IdSetBuf::open(Arc::<[u8]>::from(&bytes[..])).unwrap());
     // SAFETY: these bytes were packed.
