@@ -10,6 +10,7 @@ mod column_searching;
 #[cfg(level_v3)]
 mod level;
 mod packers;
+mod panics;
 mod ranked;
 mod set_combining;
 mod set_iter;
