@@ -130,6 +130,20 @@ def packed(folder):
     done = called("package", "--allow-dirty", "--locked", "--offline", **flags)
     built = re.search(r"Verifying .*\n.*Compiling bitpacking .*\n.*Finished", done.stderr)
     yield "cargo package", failed(done) or (None if built else f"it did not build the package: {done.stderr}")
+    listed = called("package", "--allow-dirty", "--locked", "--offline", "--list", **flags)
+    yield "links of the package", failed(listed) or lost(set(listed.stdout.splitlines()))
+
+
+def lost(names):
+    """What the page of the package, or the manifest, links and is neither one of these files of the package nor a file of the repository by its
+    URL, or None."""
+    fields = dict(re.findall(r'(?m)^(repository|documentation|readme) = "(.+)"$', source("Cargo.toml")))
+    page, url = fields["readme"], fields["repository"] + "/"
+    links = [fields["documentation"], *re.findall(r"\]\(([^)#]+)", source(page))]
+    files = [os.path.normpath(f"{os.path.dirname(page)}/{it}") for it in links if not it.startswith(url)]
+    wrong = [it for it in links if it.startswith(url) and not os.path.exists(f"{ROOT}/{it[len(url):]}")]
+    wrong += [it for it in [page, *files] if it not in names]
+    return f"there is no {', '.join(wrong)}" if wrong else None
 
 
 def committed(folder):
