@@ -46,6 +46,7 @@ mod cursor;
 mod in_place;
 mod iter;
 mod many;
+mod opening;
 mod operators;
 mod packing;
 mod query;
@@ -67,6 +68,7 @@ pub use many::{
     intersect_all, intersect_all_into, intersect_all_len, subtract_all, subtract_all_into, subtract_all_len, unite_all,
     unite_all_into, unite_all_len,
 };
+pub use opening::{OpenError, open_many};
 pub use packing::{pack_into, pack_to, packed_len};
 pub use query::{Query, QueryError};
 pub use query_ids::QueryIds;

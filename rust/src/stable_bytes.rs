@@ -7,15 +7,7 @@ use alloc::vec::Vec;
 /// Bytes that do not change: a vector, an `Rc` or an `Arc` of a slice, a borrowed slice or array.
 ///
 /// A `Box<[u8]>` is no such type, since Rust may assume of a box that moves that nothing else reads its bytes. `into_vec` makes a vector of it
-/// without a copy:
-///
-/// ```
-/// use bitpacking::set::IdSetBuf;
-///
-/// let bytes: Box<[u8]> = Box::new([0x81, 5]);
-/// assert_eq!(IdSetBuf::open(bytes.into_vec())?.unpack(), [5]);
-/// # Ok::<(), bitpacking::set::Error>(())
-/// ```
+/// without a copy.
 ///
 /// ```compile_fail,E0277
 /// let bytes: Box<[u8]> = Box::new([0x81, 5]);

@@ -133,22 +133,14 @@ impl FromIterator<u32> for IdSetBuf {
     }
 }
 
-/// Collects ids in any order, as from ids that are not borrowed.
-///
-/// # Panics
-///
-/// As from ids that are not borrowed.
+/// Collects and panics as from ids that are not borrowed.
 impl<'a> FromIterator<&'a u32> for IdSetBuf {
     fn from_iter<I: IntoIterator<Item = &'a u32>>(ids: I) -> Self {
         ids.into_iter().copied().collect()
     }
 }
 
-/// Collects ids in any order, as [`from_iter`](FromIterator::from_iter) does.
-///
-/// # Panics
-///
-/// As `from_iter`.
+/// Collects and panics as [`from_iter`](FromIterator::from_iter) does.
 ///
 /// ```
 /// assert_eq!(bitpacking::set::IdSetBuf::from([9, 4, 1, 4]).unpack(), [1, 4, 9]);
@@ -179,11 +171,7 @@ impl Extend<u32> for IdSetBuf {
     }
 }
 
-/// Adds ids in any order, as ids that are not borrowed.
-///
-/// # Panics
-///
-/// As for ids that are not borrowed.
+/// Adds and panics as for ids that are not borrowed.
 impl<'a> Extend<&'a u32> for IdSetBuf {
     #[track_caller]
     fn extend<I: IntoIterator<Item = &'a u32>>(&mut self, ids: I) {
