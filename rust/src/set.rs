@@ -10,6 +10,9 @@
 //! let dogs: IdSetBuf = (4..1000).step_by(2).collect();
 //! assert!(cats.contains(6));
 //! assert_eq!((&cats & &dogs).unpack(), [4, 6]);
+//! let mut all = &cats | &dogs | IdSetBuf::from([5]);
+//! all -= &dogs;
+//! assert_eq!(all.unpack(), [1, 5, 9]);
 //!
 //! let bytes: &[u8] = dogs.as_bytes(); // what is stored
 //! let stored = IdSet::open(bytes)?;
@@ -19,15 +22,6 @@
 //!
 //! [`IdSet`] has the calls that read, and is always behind a reference, as a `str` is. [`IdSetBuf`] owns or borrows the bytes of a set. The bytes
 //! of a set do not change: a call that combines sets or appends ids returns another set, and `|=` and `extend` replace a set by another one.
-//!
-//! ```
-//! use bitpacking::set::IdSetBuf;
-//!
-//! let [cats, dogs, old] = [[1, 4], [4, 6], [6, 9]].map(IdSetBuf::from);
-//! let mut all = &cats | &dogs | &old;
-//! all -= cats;
-//! assert_eq!(all.unpack(), [6, 9]);
-//! ```
 //!
 //! # Sizes
 //!

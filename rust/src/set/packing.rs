@@ -151,7 +151,8 @@ impl<const N: usize> From<[u32; N]> for IdSetBuf {
     }
 }
 
-/// Adds ids in any order, by one `|=` of all. It packs the whole set again: to push ids one by one, a [`SetBuilder`](super::SetBuilder) is faster.
+/// Adds ids in any order: collects them, and combines both sets as `|=` does, which packs the whole set again. To push ids one by one, a
+/// [`SetBuilder`](super::SetBuilder) is faster.
 ///
 /// # Panics
 ///
