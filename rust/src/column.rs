@@ -137,7 +137,7 @@ impl Column {
     ///
     /// # Errors
     ///
-    /// The first fault of the bytes, in the order of `docs/FORMAT.md`.
+    /// The first fault of the bytes, in the order of `docs/FORMAT.md` of the repository.
     ///
     /// ```
     /// use bitpacking::column::{Column, Error};

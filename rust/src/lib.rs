@@ -110,6 +110,7 @@ pub trait BitPacker: Sized + Clone + Copy {
     /// assert_eq!(BitPacker1x::new().compress(&values, &mut bytes, 3), 12);
     /// assert_eq!(bytes[..6], [0x88, 0xC6, 0xFA, 0x88, 0xC6, 0xFA]);
     /// ```
+    #[track_caller]
     fn compress(&self, decompressed: &[u32], compressed: &mut [u8], num_bits: u8) -> usize;
 
     /// Packs the differences of a block, the first of them from `initial`.
@@ -127,6 +128,7 @@ pub trait BitPacker: Sized + Clone + Copy {
     /// assert_eq!(BitPacker1x::new().compress_sorted(10, &values, &mut bytes, 2), 8);
     /// assert_eq!(bytes[..2], [0xFC, 0xFF]);
     /// ```
+    #[track_caller]
     fn compress_sorted(&self, initial: u32, decompressed: &[u32], compressed: &mut [u8], num_bits: u8) -> usize;
 
     /// Packs one less than the differences of a block. With `None` the block may begin with 0.
@@ -142,6 +144,7 @@ pub trait BitPacker: Sized + Clone + Copy {
     /// let values: Vec<u32> = (0..32).collect();
     /// assert_eq!(BitPacker1x::new().compress_strictly_sorted(None, &values, &mut [], 0), 0);
     /// ```
+    #[track_caller]
     fn compress_strictly_sorted(&self, initial: Option<u32>, decompressed: &[u32], compressed: &mut [u8], num_bits: u8) -> usize;
 
     /// Unpacks a block and returns the number of bytes read. Accepts any bytes; values after the block are unchanged.
@@ -159,6 +162,7 @@ pub trait BitPacker: Sized + Clone + Copy {
     /// assert_eq!(BitPacker1x::new().decompress(&bytes, &mut values, 3), 12);
     /// assert_eq!(values[..9], [0, 1, 2, 3, 4, 5, 6, 7, 0]);
     /// ```
+    #[track_caller]
     fn decompress(&self, compressed: &[u8], decompressed: &mut [u32], num_bits: u8) -> usize;
 
     /// Unpacks a block that was packed with the same `initial`.
@@ -174,6 +178,7 @@ pub trait BitPacker: Sized + Clone + Copy {
     /// assert_eq!(BitPacker1x::new().decompress_sorted(10, &bytes, &mut values, 2), 8);
     /// assert_eq!(values[..4], [10, 13, 16, 19]);
     /// ```
+    #[track_caller]
     fn decompress_sorted(&self, initial: u32, compressed: &[u8], decompressed: &mut [u32], num_bits: u8) -> usize;
 
     /// Unpacks a block that was packed strictly sorted with the same `initial`.
@@ -189,6 +194,7 @@ pub trait BitPacker: Sized + Clone + Copy {
     /// assert_eq!(BitPacker1x::new().decompress_strictly_sorted(Some(6), &[], &mut values, 0), 0);
     /// assert_eq!(values[..4], [7, 8, 9, 10]);
     /// ```
+    #[track_caller]
     fn decompress_strictly_sorted(
         &self,
         initial: Option<u32>,
@@ -210,6 +216,7 @@ pub trait BitPacker: Sized + Clone + Copy {
     /// values[7] = 1000;
     /// assert_eq!(BitPacker1x::new().num_bits(&values), 10);
     /// ```
+    #[track_caller]
     fn num_bits(&self, decompressed: &[u32]) -> u8;
 
     /// Returns the least width of the differences of a block.
@@ -225,6 +232,7 @@ pub trait BitPacker: Sized + Clone + Copy {
     /// assert_eq!(BitPacker1x::new().num_bits_sorted(1000, &values), 2);
     /// assert_eq!(BitPacker1x::new().num_bits_sorted(0, &values), 10);
     /// ```
+    #[track_caller]
     fn num_bits_sorted(&self, initial: u32, decompressed: &[u32]) -> u8;
 
     /// Returns the least width of the differences of a block, each one less.
@@ -239,6 +247,7 @@ pub trait BitPacker: Sized + Clone + Copy {
     /// let values: Vec<u32> = (0..32).collect();
     /// assert_eq!(BitPacker1x::new().num_bits_strictly_sorted(None, &values), 0);
     /// ```
+    #[track_caller]
     fn num_bits_strictly_sorted(&self, initial: Option<u32>, decompressed: &[u32]) -> u8;
 
     /// Returns the number of bytes of a block at `num_bits` bits per value.
@@ -272,6 +281,7 @@ pub trait Pack: BitPacker {
     /// assert_eq!(BitPacker1x::new().pack(&values, &mut bytes), (12, 3));
     /// assert_eq!(bytes[..3], [0x88, 0xC6, 0xFA]);
     /// ```
+    #[track_caller]
     fn pack(&self, decompressed: &[u32], compressed: &mut [u8]) -> (usize, u8);
 
     /// Packs the differences of a block at their least width.
@@ -287,6 +297,7 @@ pub trait Pack: BitPacker {
     /// let mut bytes = [0; 4 * BitPacker1x::BLOCK_LEN];
     /// assert_eq!(BitPacker1x::new().pack_sorted(10, &values, &mut bytes), (8, 2));
     /// ```
+    #[track_caller]
     fn pack_sorted(&self, initial: u32, decompressed: &[u32], compressed: &mut [u8]) -> (usize, u8);
 
     /// Packs one less than the differences of a block at their least width.
@@ -302,6 +313,7 @@ pub trait Pack: BitPacker {
     /// let mut bytes = [0; 4 * BitPacker1x::BLOCK_LEN];
     /// assert_eq!(BitPacker1x::new().pack_strictly_sorted(None, &values, &mut bytes), (0, 0));
     /// ```
+    #[track_caller]
     fn pack_strictly_sorted(&self, initial: Option<u32>, decompressed: &[u32], compressed: &mut [u8]) -> (usize, u8);
 }
 

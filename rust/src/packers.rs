@@ -11,9 +11,11 @@ pub trait Code {
 
 /// Packs a block, or panics as 0.9.3 does.
 #[inline]
+#[track_caller]
 fn compress<P: Proved>(kind: Kind, decompressed: &[u32], compressed: &mut [u8], num_bits: u8) -> usize {
     #[cold]
     #[inline(never)]
+    #[track_caller]
     fn fail(decompressed: usize, compressed: usize, num_bits: u8, block_len: usize) -> ! {
         if num_bits > 32 {
             panic!("Num bits must be <= 32. Was {num_bits}.");
@@ -36,9 +38,11 @@ fn compress<P: Proved>(kind: Kind, decompressed: &[u32], compressed: &mut [u8], 
 
 /// Unpacks a block, or panics as 0.9.3 does.
 #[inline]
+#[track_caller]
 fn decompress<P: Proved>(kind: Kind, compressed: &[u8], decompressed: &mut [u32], num_bits: u8) -> usize {
     #[cold]
     #[inline(never)]
+    #[track_caller]
     fn fail(compressed: usize, decompressed: usize, num_bits: u8, block_len: usize) -> ! {
         if decompressed < block_len {
             panic!("The output array is not large enough : ({decompressed} >= {block_len})");
@@ -57,9 +61,11 @@ fn decompress<P: Proved>(kind: Kind, compressed: &[u8], decompressed: &mut [u32]
 
 /// The least width of a block, or the panic of 0.9.3.
 #[inline]
+#[track_caller]
 fn width<P: Proved>(kind: Kind, decompressed: &[u32]) -> u8 {
     #[cold]
     #[inline(never)]
+    #[track_caller]
     fn fail(block_len: usize) -> ! {
         panic!("`decompressed`'s len is not `BLOCK_LEN={block_len}`")
     }
@@ -72,9 +78,11 @@ fn width<P: Proved>(kind: Kind, decompressed: &[u32]) -> u8 {
 
 /// Packs a block at its least width, or panics.
 #[inline]
+#[track_caller]
 fn pack<P: Proved>(kind: Kind, decompressed: &[u32], compressed: &mut [u8]) -> (usize, u8) {
     #[cold]
     #[inline(never)]
+    #[track_caller]
     fn fail(compressed: usize) -> ! {
         panic!("Output array too small for the block: it has {compressed} bytes")
     }

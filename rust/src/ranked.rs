@@ -91,6 +91,7 @@ impl<'a> Term<'a> {
 /// # Panics
 ///
 /// If there are more than 2^31 words.
+#[track_caller]
 pub fn best(terms: &[Term<'_>], classes: &[u8], at_least: usize, most: usize) -> Vec<Scored> {
     let terms = rarest_first(terms);
     if terms.len() > 1 && at_least == terms.len() {
@@ -128,6 +129,7 @@ pub fn best(terms: &[Term<'_>], classes: &[u8], at_least: usize, most: usize) ->
 /// assert_eq!(best_among(&[3, 9, 5], &[], &[], 2).err(), Some(Error::NotSorted(2)));
 /// # Ok::<(), Error>(())
 /// ```
+#[track_caller]
 pub fn best_among(documents: &[u32], terms: &[Term<'_>], classes: &[u8], most: usize) -> Result<Vec<Scored>, Error> {
     among(documents, &rarest_first(terms), classes, most)
 }
@@ -141,6 +143,7 @@ fn among(documents: &[u32], terms: &[Term<'_>], classes: &[u8], most: usize) -> 
 }
 
 /// The words, the rarest first, if they are not too many.
+#[track_caller]
 fn rarest_first<'a>(terms: &[Term<'a>]) -> Vec<Term<'a>> {
     assert!(terms.len() <= 1 << 31, "there are more than 2^31 words");
     let mut terms = terms.to_vec();

@@ -10,6 +10,9 @@
 //! let dogs: IdSetBuf = (4..1000).step_by(2).collect();
 //! assert!(cats.contains(6));
 //! assert_eq!((&cats & &dogs).unpack(), [4, 6]);
+//! let mut all = &cats | &dogs | IdSetBuf::from([5]);
+//! all -= &dogs;
+//! assert_eq!(all.unpack(), [1, 5, 9]);
 //!
 //! let bytes: &[u8] = dogs.as_bytes(); // what is stored
 //! let stored = IdSet::open(bytes)?;
@@ -17,8 +20,8 @@
 //! # Ok::<(), bitpacking::set::Error>(())
 //! ```
 //!
-//! [`IdSet`] has the calls that read, and is always behind a reference, as a `str` is. [`IdSetBuf`] owns or borrows the bytes of a set. Sets do
-//! not change: a call that combines them or appends ids returns another set.
+//! [`IdSet`] has the calls that read, and is always behind a reference, as a `str` is. [`IdSetBuf`] owns or borrows the bytes of a set. The bytes
+//! of a set do not change: a call that combines sets or appends ids returns another set, and `|=` and `extend` replace a set by another one.
 //!
 //! # Sizes
 //!
@@ -37,6 +40,7 @@ mod cursor;
 mod in_place;
 mod iter;
 mod many;
+mod opening;
 mod operators;
 mod packing;
 mod query;
@@ -58,6 +62,7 @@ pub use many::{
     intersect_all, intersect_all_into, intersect_all_len, subtract_all, subtract_all_into, subtract_all_len, unite_all,
     unite_all_into, unite_all_len,
 };
+pub use opening::{OpenError, open_many};
 pub use packing::{pack_into, pack_to, packed_len};
 pub use query::{Query, QueryError};
 pub use query_ids::QueryIds;
@@ -161,7 +166,7 @@ impl IdSet {
     ///
     /// # Errors
     ///
-    /// The first fault of the bytes, in the order of `docs/FORMAT.md`.
+    /// The first fault of the bytes, in the order of `docs/FORMAT.md` of the repository.
     ///
     /// ```
     /// use bitpacking::set::{Error, IdSet};

@@ -12,6 +12,7 @@ mod hints;
 #[cfg(level_v3)]
 mod level;
 mod packers;
+mod panics;
 mod ranked;
 mod set_combining;
 mod set_iter;

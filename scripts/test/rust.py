@@ -35,6 +35,8 @@ EXAMPLES = {
     "block": f"32 bytes for {[*range(0, 384, 3)]}\n",
     # Gaps of 2 and 4 in turn: one less are 1 and 3, two bits each, and so 2 * 16 bytes for each block of 128.
     "posting_list": "300 numbers: [2, 2] bits, 64 bytes, 44 numbers as they are\n",
+    # The bytes that FORMAT works.
+    "shared": "[7, 9, 10, 300]\n",
     # 300 is at position 3.
     "set": "from 100 on: Some((3, 300)), in both: [9, 300]\n",
     # 199 and 205 are below 210.
@@ -143,6 +145,20 @@ def packed(folder):
     done = called("package", "--allow-dirty", "--locked", "--offline", **flags)
     built = re.search(r"Verifying .*\n.*Compiling bitpacking .*\n.*Finished", done.stderr)
     yield "cargo package", failed(done) or (None if built else f"it did not build the package: {done.stderr}")
+    listed = called("package", "--allow-dirty", "--locked", "--offline", "--list", **flags)
+    yield "links of the package", failed(listed) or lost(set(listed.stdout.splitlines()))
+
+
+def lost(names):
+    """What the page of the package, or the manifest, links and is neither one of these files of the package nor a file of the repository by its
+    URL, or None."""
+    fields = dict(re.findall(r'(?m)^(repository|documentation|readme) = "(.+)"$', source("Cargo.toml")))
+    page, url = fields["readme"], fields["repository"] + "/"
+    links = [fields["documentation"], *re.findall(r"\]\(([^)#]+)", source(page))]
+    files = [os.path.normpath(f"{os.path.dirname(page)}/{it}") for it in links if not it.startswith(url)]
+    wrong = [it for it in links if it.startswith(url) and not os.path.exists(f"{ROOT}/{it[len(url):]}")]
+    wrong += [it for it in [page, *files] if it not in names]
+    return f"there is no {', '.join(wrong)}" if wrong else None
 
 
 def committed(folder):

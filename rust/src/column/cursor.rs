@@ -121,6 +121,26 @@ impl Cursor<'_> {
     pub fn move_to(&mut self, position: usize) {
         self.code.move_to(position);
     }
+
+    /// Writes the values from the position on at the start of a slice, until it is full or the last is written. Moves after them, and returns their
+    /// number. The rest of the slice is unchanged.
+    ///
+    /// ```
+    /// let column: bitpacking::column::ColumnBuf = [5, 3, 8].into_iter().collect();
+    /// let (mut cursor, mut page) = (column.cursor(), [0; 2]);
+    /// assert_eq!((cursor.fill(&mut page), page, cursor.position()), (2, [5, 3], 2));
+    /// assert_eq!((cursor.fill(&mut page), page, cursor.position()), (1, [8, 3], 3));
+    /// ```
+    pub fn fill(&mut self, values: &mut [u32]) -> usize {
+        let mut written = 0;
+        while written < values.len() && !self.block().is_empty() {
+            let len = self.block().len().min(values.len() - written);
+            values[written..written + len].copy_from_slice(&self.block()[..len]);
+            self.move_to(self.position() + len);
+            written += len;
+        }
+        written
+    }
 }
 
 impl fmt::Debug for Cursor<'_> {

@@ -2,6 +2,7 @@
 
 use alloc::vec;
 use alloc::vec::Vec;
+use core::borrow::Borrow;
 use core::fmt;
 
 use super::Column;
@@ -98,5 +99,28 @@ impl Column {
         let gathered = self.code.gather(positions, values);
         values.truncate(if gathered.is_ok() { positions.len() } else { before });
         gathered.map_err(|index| OutOfBounds { index, position: positions[index] })
+    }
+
+    /// Returns the value at each id, as [`gather`](Column::gather) does at each position: of a slice, of a set, or of a query. Allocates 12 bytes
+    /// for each id.
+    ///
+    /// # Errors
+    ///
+    /// As [`gather`](Column::gather).
+    ///
+    /// ```
+    /// use bitpacking::column::{ColumnBuf, OutOfBounds};
+    /// use bitpacking::set::IdSetBuf;
+    ///
+    /// let prices: ColumnBuf = [5, 3, 8, 2].into_iter().collect();
+    /// let cats = IdSetBuf::from([0, 3]);
+    /// assert_eq!((prices.gather_ids(&cats)?, prices.gather_ids(&[3, 0, 3])?), (vec![5, 2], vec![2, 5, 2]));
+    /// # Ok::<(), OutOfBounds>(())
+    /// ```
+    pub fn gather_ids(&self, ids: impl IntoIterator<Item = impl Borrow<u32>>) -> Result<Vec<u32>, OutOfBounds> {
+        let positions: Vec<usize> = ids.into_iter().map(|id| *id.borrow() as usize).collect();
+        let mut values = Vec::new();
+        self.gather_into(&positions, &mut values)?;
+        Ok(values)
     }
 }

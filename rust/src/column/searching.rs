@@ -4,6 +4,7 @@ use alloc::vec::Vec;
 use core::ops::{Bound, RangeBounds};
 
 use super::{Column, Error, Positions};
+use crate::set::IdSetBuf;
 
 /// How many positions a vector gets room for at first.
 const FEW: usize = 256;
@@ -82,6 +83,28 @@ impl Column {
             found += pages.write(&mut positions[found..]);
         }
         positions.truncate(found);
+    }
+
+    /// Returns the set of the positions that [`positions_between`](Column::positions_between) returns, for an operator or a query. Allocates 4 bytes
+    /// for each position, and the bytes of the set.
+    ///
+    /// # Panics
+    ///
+    /// If an allocation fails.
+    ///
+    /// ```
+    /// use bitpacking::column::ColumnBuf;
+    /// use bitpacking::set::IdSetBuf;
+    ///
+    /// let prices: ColumnBuf = [5, 3, 8, 2, 4].into_iter().collect();
+    /// let cats = IdSetBuf::from([1, 2, 4]);
+    /// assert_eq!((&cats & prices.between_ids(3..=5)).unpack(), [1, 4]);
+    /// ```
+    #[track_caller]
+    pub fn between_ids(&self, range: impl RangeBounds<u32>) -> IdSetBuf {
+        // A column has at most 2^28 values.
+        let ids: Vec<u32> = self.positions_between(range).map(|position| position as u32).collect();
+        IdSetBuf::pack(&ids).expect("positions that increase, and memory for the set")
     }
 
     /// Returns how many whole blocks of 128 values there are. The values after them, fewer than 128, are in no block.

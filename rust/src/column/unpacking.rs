@@ -77,6 +77,7 @@ impl Column {
     /// # Ok::<(), Error>(())
     /// ```
     #[inline]
+    #[track_caller]
     pub fn get_wide(&self, base: u64, position: usize) -> Option<u64> {
         test_base(base);
         self.get(position).map(|value| base + u64::from(value))
@@ -95,6 +96,7 @@ impl Column {
     /// assert_eq!(offsets.unpack_wide(1 << 40), [(1 << 40) + 7, (1 << 40) + 9, (1 << 40) + 10]);
     /// # Ok::<(), Error>(())
     /// ```
+    #[track_caller]
     pub fn unpack_wide(&self, base: u64) -> Vec<u64> {
         test_base(base);
         let mut sums = Vec::with_capacity(self.len());
@@ -109,6 +111,7 @@ impl Column {
 
 /// Panics if a value may pass 64 bits with a base.
 #[inline]
+#[track_caller]
 fn test_base(base: u64) {
     assert!(base <= MAX_BASE, "the base {base} is above {MAX_BASE}");
 }

@@ -12,6 +12,7 @@ use crate::sets::Operation;
 const MOST_UNCOUNTED: usize = 1 << 22;
 
 /// How many ids the first set gives, combined with each other set in turn.
+#[track_caller]
 pub(super) fn count(operation: Operation, sets: &[&IdSet]) -> usize {
     usize::try_from(sets::combine_all_count(operation, sets)).expect("a count of ids that fits `usize`")
 }
@@ -51,8 +52,12 @@ fn try_combine_set(operation: Operation, one: &IdSet, other: &IdSet) -> Result<I
 }
 
 /// The set that an operation on two sets gives. Panics if there is an error.
+#[track_caller]
 pub(super) fn combine_set(operation: Operation, one: &IdSet, other: &IdSet) -> IdSetBuf {
-    try_combine_set(operation, one, other).unwrap_or_else(|error| panic!("{error}"))
+    match try_combine_set(operation, one, other) {
+        Ok(set) => set,
+        Err(error) => panic!("{error}"),
+    }
 }
 
 /// Two sets combined. A call that returns a set allocates 4 bytes for each id of the answer, and the bytes of its encoding.
@@ -71,6 +76,7 @@ impl IdSet {
     /// # Ok::<(), bitpacking::set::Error>(())
     /// ```
     #[must_use]
+    #[track_caller]
     pub fn intersect(&self, other: &IdSet) -> IdSetBuf {
         combine_set(Operation::And, self, other)
     }
@@ -106,6 +112,7 @@ impl IdSet {
     /// # Ok::<(), bitpacking::set::Error>(())
     /// ```
     #[must_use]
+    #[track_caller]
     pub fn unite(&self, other: &IdSet) -> IdSetBuf {
         combine_set(Operation::Or, self, other)
     }
@@ -141,6 +148,7 @@ impl IdSet {
     /// # Ok::<(), bitpacking::set::Error>(())
     /// ```
     #[must_use]
+    #[track_caller]
     pub fn subtract(&self, other: &IdSet) -> IdSetBuf {
         combine_set(Operation::AndNot, self, other)
     }
@@ -176,6 +184,7 @@ impl IdSet {
     /// # Ok::<(), bitpacking::set::Error>(())
     /// ```
     #[must_use]
+    #[track_caller]
     pub fn symmetric_difference(&self, other: &IdSet) -> IdSetBuf {
         combine_set(Operation::Xor, self, other)
     }
@@ -324,6 +333,19 @@ impl IdSet {
     /// ```
     pub fn is_subset(&self, other: &IdSet) -> bool {
         sets::is_subset(&self.code(), &other.code())
+    }
+
+    /// Returns whether this set has each id of the other: [`is_subset`](IdSet::is_subset) of the other.
+    ///
+    /// ```
+    /// use bitpacking::set::IdSetBuf;
+    ///
+    /// let (cats, dogs) = (IdSetBuf::pack(&[1, 4, 6, 9])?, IdSetBuf::pack(&[4, 6])?);
+    /// assert!(cats.is_superset(&dogs) && !dogs.is_superset(&cats));
+    /// # Ok::<(), bitpacking::set::Error>(())
+    /// ```
+    pub fn is_superset(&self, other: &IdSet) -> bool {
+        other.is_subset(self)
     }
 
     /// Returns whether no id is in both sets. Stops at the first chunk that has such an id, and allocates nothing.

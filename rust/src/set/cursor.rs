@@ -150,6 +150,28 @@ impl SetCursor<'_> {
         }
         self.value
     }
+
+    /// Writes the ids from here on at the start of a slice, until it is full or the last is written. Moves after them, and returns their number. The
+    /// rest of the slice is unchanged.
+    ///
+    /// ```
+    /// use bitpacking::set::IdSetBuf;
+    ///
+    /// let set = IdSetBuf::pack(&[1, 4, 6, 9])?;
+    /// let (mut ids, mut page) = (set.cursor(), [0; 3]);
+    /// assert_eq!((ids.fill(&mut page), page, ids.value()), (3, [1, 4, 6], Some(9)));
+    /// assert_eq!((ids.fill(&mut page), page, ids.value()), (1, [9, 4, 6], None));
+    /// # Ok::<(), bitpacking::set::Error>(())
+    /// ```
+    pub fn fill(&mut self, ids: &mut [u32]) -> usize {
+        let (Some(id), Some((first, rest))) = (self.value, ids.split_first_mut()) else {
+            return 0;
+        };
+        *first = id;
+        let len = 1 + self.later.fill(rest);
+        self.advance();
+        len
+    }
 }
 
 cursor!(SetCursor<'_>);

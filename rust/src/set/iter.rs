@@ -39,6 +39,18 @@ impl Iter<'_> {
         self.position
     }
 
+    /// Writes the next ids at the start of a slice, as many as it has room for, and returns their number.
+    pub(super) fn fill(&mut self, ids: &mut [u32]) -> usize {
+        let part = self.unpacked();
+        let len = part.len().min(ids.len());
+        ids[..len].copy_from_slice(&part[..len]);
+        self.position += len;
+        let room = ids.len().min(len + self.len());
+        let more = self.code.copy_range(self.position, &mut ids[len..room]);
+        self.position += more;
+        len + more
+    }
+
     /// Skips the ids that are below `target`, mostly without unpacking them.
     ///
     /// ```

@@ -90,6 +90,7 @@ pub fn unite_all_into(sets: &[&IdSet], ids: &mut Vec<u32>) {
 /// let [cats, dogs] = [[1, 4, 6, 9], [4, 6, 7, 9]].map(|ids| IdSetBuf::pack(&ids).unwrap());
 /// assert_eq!(unite_all_len(&[&cats, &dogs]), 5);
 /// ```
+#[track_caller]
 pub fn unite_all_len(sets: &[&IdSet]) -> usize {
     count(Operation::Or, sets)
 }

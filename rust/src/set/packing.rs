@@ -132,3 +132,50 @@ impl FromIterator<u32> for IdSetBuf {
         IdSetBuf::pack(&ids).unwrap_or_else(|error| panic!("{error}"))
     }
 }
+
+/// Collects and panics as from ids that are not borrowed.
+impl<'a> FromIterator<&'a u32> for IdSetBuf {
+    fn from_iter<I: IntoIterator<Item = &'a u32>>(ids: I) -> Self {
+        ids.into_iter().copied().collect()
+    }
+}
+
+/// Collects and panics as [`from_iter`](FromIterator::from_iter) does.
+///
+/// ```
+/// assert_eq!(bitpacking::set::IdSetBuf::from([9, 4, 1, 4]).unpack(), [1, 4, 9]);
+/// ```
+impl<const N: usize> From<[u32; N]> for IdSetBuf {
+    fn from(ids: [u32; N]) -> Self {
+        ids.into_iter().collect()
+    }
+}
+
+/// Adds ids in any order: collects them, and combines both sets as `|=` does, which packs the whole set again. To push ids one by one, a
+/// [`SetBuilder`](super::SetBuilder) is faster.
+///
+/// # Panics
+///
+/// If the set would have more than 268,435,456 ids, or an allocation fails. The set is then unchanged.
+///
+/// ```
+/// use bitpacking::set::IdSetBuf;
+///
+/// let mut ids = IdSetBuf::from([4, 9]);
+/// ids.extend([6, 1, 4]);
+/// assert_eq!(ids.unpack(), [1, 4, 6, 9]);
+/// ```
+impl Extend<u32> for IdSetBuf {
+    #[track_caller]
+    fn extend<I: IntoIterator<Item = u32>>(&mut self, ids: I) {
+        *self |= ids.into_iter().collect::<IdSetBuf>();
+    }
+}
+
+/// Adds and panics as for ids that are not borrowed.
+impl<'a> Extend<&'a u32> for IdSetBuf {
+    #[track_caller]
+    fn extend<I: IntoIterator<Item = &'a u32>>(&mut self, ids: I) {
+        self.extend(ids.into_iter().copied());
+    }
+}

@@ -259,6 +259,7 @@ impl<'a> Query<'a> {
     /// assert_eq!((Query::from(&cats) | &dogs).count()?, 6);
     /// # Ok::<(), bitpacking::set::QueryError>(())
     /// ```
+    #[track_caller]
     pub fn count(&self) -> Result<usize, QueryError> {
         let mut count = 0;
         self.ids()?.for_each_part(|part| count += part.len() as u64);

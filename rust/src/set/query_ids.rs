@@ -143,6 +143,32 @@ impl<'a> QueryIds<'a> {
         self.value()
     }
 
+    /// Writes the ids from here on at the start of a slice, until it is full or the last is written. Moves after them, and returns their number. The
+    /// rest of the slice may change.
+    ///
+    /// ```
+    /// use bitpacking::set::{IdSetBuf, Query};
+    ///
+    /// let [cats, dogs] = [[1, 4, 6, 9], [4, 6, 7, 8]].map(IdSetBuf::from);
+    /// let query = Query::from(&cats) | &dogs;
+    /// let (mut ids, mut page) = (query.ids()?, [0; 4]);
+    /// assert_eq!((ids.fill(&mut page), page, ids.value()), (4, [1, 4, 6, 7], Some(8)));
+    /// assert_eq!((ids.fill(&mut page), &page[..2], ids.value()), (2, &[8, 9][..], None));
+    /// # Ok::<(), bitpacking::set::QueryError>(())
+    /// ```
+    pub fn fill(&mut self, ids: &mut [u32]) -> usize {
+        let part = self.part();
+        let len = part.len().min(ids.len());
+        ids[..len].copy_from_slice(&part[..len]);
+        self.at += len;
+        if self.at < self.len {
+            return len;
+        }
+        let more = self.later.next_ids(&mut ids[len..]);
+        self.find();
+        len + more
+    }
+
     /// Skips the ids that are below `target`, as [`seek`](QueryIds::seek) does: the name of iterators of sets.
     ///
     /// ```

@@ -87,6 +87,8 @@ fn values_at_positions() {
             let before = found.clone();
             match right {
                 Some(right) => {
+                    let ids: Vec<u32> = positions.iter().map(|position| *position as u32).collect();
+                    assert_eq!([column.gather_ids(&ids), column.gather_ids(ids)], [Ok(right.clone()), Ok(right.clone())]);
                     assert_eq!(column.gather(&positions).as_ref(), Ok(&right));
                     assert_eq!(column.gather_into(&positions, &mut found), Ok(()));
                     assert_eq!(found, right);
@@ -112,6 +114,10 @@ fn positions_that_are_not_there() {
             positions.extend([wrong, usize::MAX]);
             let refused = OutOfBounds { index, position: wrong };
             assert_eq!(column.gather(&positions), Err(refused));
+            if let Ok(id) = u32::try_from(wrong) {
+                let ids = positions[..index].iter().map(|position| *position as u32).chain([id, u32::MAX]);
+                assert_eq!(column.gather_ids(ids), Err(refused));
+            }
             for room in [0, index, index + 2, 500] {
                 let mut found = vec![CANARY; room];
                 assert_eq!(column.gather_into(&positions, &mut found), Err(refused));
@@ -216,7 +222,15 @@ fn cursors() {
         let (mut cursor, mut position) = (column.cursor(), 0);
         for _ in 0..60 {
             is_at(&cursor, position, values);
-            match numbers.below(4) {
+            match numbers.below(5) {
+                4 => {
+                    let room = [0, 1, 100, 128, 129, 400][numbers.below(6)];
+                    let right = &values[position..values.len().min(position + room)];
+                    let mut page = vec![CANARY; room];
+                    assert_eq!((cursor.fill(&mut page), &page[..right.len()]), (right.len(), right));
+                    assert!(page[right.len()..].iter().all(|value| *value == CANARY));
+                    position += right.len();
+                }
                 0 => {
                     cursor.skip_block();
                     position = (position / 128 * 128 + 128).min(values.len());

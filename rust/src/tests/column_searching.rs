@@ -26,6 +26,7 @@ fn finds(column: &Column, values: &[u32], range: impl RangeBounds<u32> + Clone, 
     assert_eq!(column.count_between(range.clone()), right.len());
     column.positions_between_into(range.clone(), used);
     assert_eq!(*used, right);
+    assert!(column.between_ids(range.clone()).iter().map(|id| id as usize).eq(right.iter().copied()));
     let mut found = column.positions_between(range);
     let (least, most) = found.size_hint();
     assert!(least <= right.len() && right.len() <= most.unwrap());

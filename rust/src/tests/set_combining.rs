@@ -22,6 +22,10 @@ fn pair(numbers: &mut Numbers, round: u32) -> (Model, Model) {
     (one, two)
 }
 
+fn borrowed_of(set: &IdSet) -> IdSetBuf<&[u8]> {
+    IdSet::open(set.as_bytes()).unwrap()
+}
+
 /// The answers in the order AND, OR, AND NOT, XOR.
 fn answers(one: &Model, other: &Model) -> [Vec<u32>; 4] {
     [one & other, one | other, one - other, one ^ other].map(|model| listed(&model))
@@ -49,6 +53,21 @@ fn two_sets() {
         changed[2] -= &b;
         changed[3] ^= &borrowed;
         assert_eq!(changed, sets);
+        // Consumed: the first, the second, or both, of bytes that they own or borrow.
+        let (x, y) = (|| a.clone(), || b.clone());
+        assert_eq!([x() & &b, x() | &*b, x() - y(), x() ^ y()], sets);
+        assert_eq!([&a & y(), &*a | y(), borrowed_of(&a) - &b, borrowed_of(&a) ^ borrowed_of(&b)], sets);
+        let mut changed = [x(), x(), x(), x()];
+        changed[0] &= y();
+        changed[1] |= borrowed_of(&b);
+        changed[2] -= y();
+        changed[3] ^= y();
+        assert_eq!(changed, sets);
+        let third = IdSetBuf::from([3, 70_000]);
+        let all = listed(&(&(&one | &other) | &Model::from([3, 70_000])));
+        assert_eq!([(&a | &b | &third).unpack(), (x() | y() | third).unpack()], [all.clone(), all]);
+        let within = [one.is_superset(&other), other.is_superset(&one), true];
+        assert_eq!([a.is_superset(&b), b.is_superset(&a), (&a | &b).is_superset(&b)], within);
         let lens = [a.intersect_len(&b), a.unite_len(&b), a.subtract_len(&b), a.symmetric_difference_len(&b)];
         assert_eq!(lens, right.each_ref().map(Vec::len));
         let into = [IdSet::intersect_into, IdSet::unite_into, IdSet::subtract_into, IdSet::symmetric_difference_into];

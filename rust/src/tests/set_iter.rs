@@ -5,7 +5,7 @@ use core::ops::Bound;
 use core::ops::Bound::{Excluded, Included, Unbounded};
 
 use super::set_models::{FORMS, Model, Numbers, listed, packed, some_ids};
-use crate::set::{Cursor, IdSet, IdSetBuf, Iter};
+use crate::set::{Cursor, IdSet, IdSetBuf, Iter, SetCursor};
 
 /// A model of each form, and its set.
 fn sets(seed: u64) -> impl Iterator<Item = (Numbers, Model, IdSetBuf)> {
@@ -108,12 +108,20 @@ fn ranges() {
     }
 }
 
-/// Moves a cursor of any kind, beside its plain ids.
-pub(super) fn walks(numbers: &mut Numbers, mut cursor: impl Cursor, ids: &[u32]) {
+/// Moves a cursor of any kind, also by `fill`, beside its plain ids.
+pub(super) fn walks<C: Cursor>(numbers: &mut Numbers, mut cursor: C, fill: fn(&mut C, &mut [u32]) -> usize, ids: &[u32]) {
     let mut at = 0;
     assert_eq!(cursor.value(), ids.first().copied());
     while at < ids.len() {
-        if numbers.below(3) == 0 {
+        let step = numbers.below(4);
+        if step == 0 {
+            let mut page = [7; 600];
+            let room = [0, 1, 2, 64, 255, 256, 257, 600][numbers.below(8) as usize];
+            let len = room.min(ids.len() - at);
+            assert_eq!((fill(&mut cursor, &mut page[..room]), &page[..len]), (len, &ids[at..at + len]));
+            assert!(page[room..].iter().all(|id| *id == 7));
+            at += len;
+        } else if step == 1 {
             let target = near(numbers, &ids[at..]);
             at += ids[at..].partition_point(|id| *id < target);
             assert_eq!(cursor.seek(target), ids.get(at).copied());
@@ -124,6 +132,17 @@ pub(super) fn walks(numbers: &mut Numbers, mut cursor: impl Cursor, ids: &[u32])
         assert_eq!(cursor.value(), ids.get(at).copied());
     }
     assert_eq!((cursor.advance(), cursor.seek(0), cursor.value()), (None, None, None));
+    assert_eq!((fill(&mut cursor, &mut [1; 300]), cursor.value()), (0, None));
+}
+
+/// The rest of a slice, after the last id.
+#[test]
+fn filled_to_the_end() {
+    let set: IdSetBuf = (0..700).collect();
+    let mut page = [7; 500];
+    let mut cursor = set.cursor();
+    assert_eq!((cursor.fill(&mut page), cursor.fill(&mut page), cursor.position()), (500, 200, 700));
+    assert!(page[..200].iter().copied().eq(500..700) && page[200..].iter().copied().eq(200..500));
 }
 
 #[test]
@@ -131,7 +150,7 @@ fn cursors() {
     for (mut numbers, model, set) in sets(100) {
         let ids = listed(&model);
         for _ in 0..3 {
-            walks(&mut numbers, set.cursor(), &ids);
+            walks(&mut numbers, set.cursor(), SetCursor::fill, &ids);
         }
         let mut cursor = set.cursor();
         for step in 0..100 {

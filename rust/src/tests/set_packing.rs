@@ -48,9 +48,15 @@ fn built_and_collected() {
         }
         // In the opposite order, twice, and as from a set without an order.
         assert_eq!(ids.iter().rev().chain(&ids).copied().collect::<IdSetBuf>(), set);
-        assert_eq!(model.iter().copied().collect::<IdSetBuf>(), set);
+        assert_eq!([model.iter().copied().collect::<IdSetBuf>(), ids.iter().rev().collect()], [set.clone(), set.clone()]);
+        // The second half before the first, whose last id comes once more, and by reference.
+        let mut grown = IdSetBuf::default();
+        grown.extend(ids[half..].iter().rev().copied());
+        grown.extend(&ids[..half.max(1).min(ids.len())]);
+        assert_eq!(grown, set);
     }
     assert_eq!(Vec::<u32>::new().into_iter().collect::<IdSetBuf>(), IdSetBuf::default());
+    assert_eq!([IdSetBuf::from([]), IdSetBuf::from([9, 4, 9])].map(|set| set.unpack()), [vec![], vec![4, 9]]);
 }
 
 /// At every kind of cut: within a chunk, between chunks, and at a change of the form.

@@ -5,7 +5,7 @@ use std::thread;
 
 use super::set_iter::walks;
 use super::set_models::{FORMS, Model, Numbers, listed, packed, some_ids, used};
-use crate::set::{IdSetBuf, Query, QueryError};
+use crate::set::{IdSetBuf, Query, QueryError, QueryIds};
 
 /// A query of up to `left` sets, by methods and operators, and its ids.
 fn some_query<'a>(numbers: &mut Numbers, sets: &'a [IdSetBuf], models: &[Model], left: u32) -> (Query<'a>, Model) {
@@ -48,7 +48,7 @@ fn trees_of_sets() {
         assert_eq!(vector, ids);
         assert!(query.ids().unwrap().eq(ids.iter().copied()));
         assert_eq!(query.ids().unwrap().map(u64::from).sum::<u64>(), ids.iter().copied().map(u64::from).sum());
-        walks(&mut numbers, query.clone().ids().unwrap(), &ids);
+        walks(&mut numbers, query.clone().ids().unwrap(), QueryIds::fill, &ids);
         let mut later = query.ids().unwrap();
         let target = numbers.next();
         later.advance_to(target);

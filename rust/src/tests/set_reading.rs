@@ -4,7 +4,7 @@ use alloc::vec;
 use alloc::vec::Vec;
 
 use super::set_models::{FORMS, Model, Numbers, bytes_of, ids_of, listed, packed, rows, some_ids, used};
-use crate::set::{Error, IdSet, IdSetBuf, pack_into, pack_to, packed_len};
+use crate::set::{Error, IdSet, IdSetBuf, OpenError, open_many, pack_into, pack_to, packed_len};
 
 const CANARY: u32 = 0xA5A5_A5A5;
 
@@ -173,6 +173,22 @@ fn worked_faults() {
     ] {
         assert_eq!(IdSet::open(&bytes_of(&field.replace(' ', ""))).err(), Some(error), "{field}");
     }
+}
+
+/// The second of the encodings with a fault is not read.
+#[test]
+fn many_opened() {
+    let rows = rows("id_sets");
+    let encodings: Vec<Vec<u8>> = rows.iter().map(|row| bytes_of(&row[1])).collect();
+    let sets = open_many(encodings.iter().map(|bytes| &bytes[..])).unwrap();
+    assert!(sets.iter().map(|set| set.unpack()).eq(rows.iter().map(|row| ids_of(&row[0]))));
+    for index in [0, 7, encodings.len() - 1] {
+        let mut wrong = encodings.clone();
+        wrong[index] = vec![0x81, 5, 0];
+        wrong[index + 1..].fill(vec![]);
+        assert_eq!(open_many(wrong), Err(OpenError { index, error: Error::Trailing }));
+    }
+    assert_eq!(open_many::<&[u8]>([]), Ok(vec![]));
 }
 
 /// A set of 2^28 ids, in 4,096 full chunks from a key on: the longest one.

@@ -11,7 +11,7 @@ use core::panic::UnwindSafe;
 use std::collections::HashSet;
 use std::io;
 
-use crate::set::{Error, IdSet, IdSetBuf, IntoIter, Iter, Query, QueryError, QueryIds, SetBuilder, SetCursor};
+use crate::set::{Error, IdSet, IdSetBuf, IntoIter, Iter, Query, QueryError, QueryIds, SetBuilder, SetCursor, open_many};
 use crate::{StableBytes, chain, column, ranked};
 
 #[test]
@@ -66,6 +66,7 @@ fn cloned_and_owned() {
     }
     let bytes = IdSetBuf::pack(&[7, 9, 10, 300]).unwrap().into_bytes();
     cloned(IdSetBuf::open(&bytes[..]).unwrap());
+    cloned(IdSetBuf::open(&[0x84, 7, 9, 1, 0, 0x84, 4]).unwrap());
     cloned(IdSetBuf::open(Rc::<[u8]>::from(&bytes[..])).unwrap());
     cloned(IdSetBuf::open(Arc::<[u8]>::from(&bytes[..])).unwrap());
     // SAFETY: these bytes were packed.
@@ -107,6 +108,7 @@ fn errors_of_io() {
         (column::Column::open(&[]).unwrap_err().into(), io::ErrorKind::InvalidData, "bytes are missing"),
         (chain::Error::BadWidth.into(), io::ErrorKind::InvalidData, "a width is above 32"),
         (ranked::Error::OtherLength.into(), io::ErrorKind::InvalidData, "there are more documents than counts, or fewer"),
+        (open_many([&[]]).unwrap_err().into(), io::ErrorKind::InvalidData, "encoding 0: bytes are missing"),
         (QueryError::Memory.into(), io::ErrorKind::InvalidInput, "out of memory"),
         (
             column::ColumnBuf::default().gather(&[7]).unwrap_err().into(),
