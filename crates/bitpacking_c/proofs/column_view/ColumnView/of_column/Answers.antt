@@ -16,7 +16,7 @@ pub invariant_of-result-clause-opened : goal.invariant_of-result-clause-opened
 invariant_of-result-clause-opened c = λ some.
     let parts = c.parts-parts.result in
     rw (← c.requires)
-    (subst (λ kind. States (encoding_of c.args.column.now) kind parts.count parts.first parts.rest.now) (sym (ap known_kind c.number_of.ensures ∙ known_of_bit parts.kind)) c.parts-parts.ensures.states)
+    (subst (λ kind. States (encoding_of c.args.column.now) kind parts.count parts.first parts.rest.bytes.now) (sym (ap known_kind c.number_of.ensures ∙ known_of_bit parts.kind)) c.parts-parts.ensures.states)
 
 pub invariant_of-result-clause-counted : goal.invariant_of-result-clause-counted
 invariant_of-result-clause-counted c = rw (← c.requires) c.parts-parts.ensures.count
