@@ -10,7 +10,7 @@ use Rattle.bitpack_sets.proofs.FoldLaws.{none_of_highs, set_ids}
 use Rattle.bitpack_sets.specs.Bitmaps.{has_bit}
 use Rattle.bitpack_sets.specs.Operations.{apply}
 use Rattle.bitpack_sets.specs.Chunks.{first_key}
-use Rattle.bitpack_sets.specs.Queries.{can_find, can_give, evaluate, fault_from, has_keys, is_found, most_waiting, passes, waiting_after}
+use Rattle.bitpack_sets.specs.Queries.{can_give, evaluate, fault_from, has_keys, is_found, most_waiting, passes, waiting_after}
 use Rattle.bitpack_sets.specs.Reads.{has}
 use Rattle.bitpack_sets.specs.declared.operation.Operation.{Operation}
 use Rattle.bitpack_sets.specs.declared.query_error.QueryError.{QueryError}

@@ -1,5 +1,5 @@
 -- The vector without items has the room that it had.
-use Rattle.std.proofs.Common.{◌++◌, ℕ, ap, length, subst, sym, ◌∙◌, vec_capacity}
+use Rattle.std.proofs.Common.{◌++◌, ℕ, ap, length, subst, sym, vec_capacity}
 use Rattle.std.specs.Option.{is_some}
 use Rattle.bitpack_sets.proofs.EncodeLaws.{all_if_no_chunks}
 use Rattle.bitpack_sets.proofs.appending.append.Goals as goal

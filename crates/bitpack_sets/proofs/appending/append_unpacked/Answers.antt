@@ -1,5 +1,5 @@
 -- All ids are in the room.
-use Rattle.std.proofs.Common.{◌≡◌, ◌++◌, [], List, ℕ, ap, arith, length, rules, subst, sym, ◌∙◌, length-append}
+use Rattle.std.proofs.Common.{◌≡◌, ◌++◌, List, ℕ, ap, arith, length, rules, subst, sym, ◌∙◌, length-append}
 use Rattle.bitpack_sets.proofs.EncodeLaws.{accepted, appended}
 use Rattle.bitpack_sets.proofs.RefusalLaws.{none_refused}
 use Rattle.bitpack_sets.proofs.appending.append_unpacked.Goals as goal

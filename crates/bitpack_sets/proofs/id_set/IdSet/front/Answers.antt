@@ -1,5 +1,5 @@
 -- A set in chunks has a last chunk.
-use Rattle.std.proofs.Common.{◌≡◌, ◌≢◌, ◌-◌, ◌≤◌, ℕ, List, ap, arith, get_or, length, subst, sym, ◌∙◌, rules}
+use Rattle.std.proofs.Common.{◌≡◌, ◌-◌, ◌≤◌, ℕ, List, ap, arith, get_or, length, subst, sym, ◌∙◌, rules}
 use Rattle.std.proofs.lemmas.Bool.{ne_eqb}
 use Rattle.bitpack_sets.proofs.CountLaws.{bytes_are}
 use Rattle.bitpack_sets.proofs.FormLaws.{some_bytes, stated_chunks}
