@@ -73,7 +73,7 @@ fn joined(column: &Column<'_>, rest: &[u32], kind: ColumnKind, bytes: &[u8], cut
     let other = encoded(kind, &less);
     let other = Column::open(&other).unwrap();
     let mut vector = vec![OTHER; MORE];
-    report.check(&row.name, &format!("join after {cut}"), join(column, base, &other, &mut vector), Ok(()));
+    report.check(&row.name, &format!("join after {cut}"), join(column, base, &other, &mut Vec::new(), &mut vector), Ok(()));
     report.check(&row.name, &format!("bytes joined after {cut}"), vector == [&[OTHER; MORE], bytes].concat(), true);
     let mut slice = vec![OTHER; bytes.len() + MORE];
     let mut room = vec![0; rest.len() + MORE];
@@ -107,7 +107,7 @@ pub fn joined_by_hand(report: &mut Report) {
         let (column, other) = (Column::open(&front).unwrap(), Column::open(&other).unwrap());
         let name = format!("joined by hand:{at}");
         let mut vector = vec![OTHER; MORE];
-        report.check(&name, "join", join(&column, base, &other, &mut vector), right.map(|_| ()));
+        report.check(&name, "join", join(&column, base, &other, &mut Vec::new(), &mut vector), right.map(|_| ()));
         report.check(&name, "bytes joined", vector, [&[OTHER; MORE], right.unwrap_or(&[])].concat());
         let (mut slice, mut room) = (vec![OTHER; 20], vec![0; others.len()]);
         report.check(&name, "join_to", join_to(&column, base, &other, &mut room, &mut slice), right.map(|it| it.len()));
