@@ -69,7 +69,7 @@ fn values(numbers: &Numbers, kind: Kind) -> Vec<u32> {
     (0..len).map(one).collect()
 }
 
-/// The same bytes in another type are the same set.
+/// Checks that sets over equal bytes are equal, whatever type has the bytes.
 fn held<B: StableBytes>(bytes: B, set: &IdSetBuf, ids: &[u32]) {
     let held = IdSetBuf::open(bytes).unwrap();
     assert!(held == *set && *held == **set && held.iter().eq(ids.iter().copied()));
@@ -135,7 +135,7 @@ fn operators(one: &IdSetBuf, ids: &[u32], other: &IdSetBuf, more: &[u32]) {
     }
 }
 
-/// Ids after those of a set, and ids and values that come one after the other: what packing all returns, and its errors.
+/// Checks that appending, and building one by one, return what packing all ids or values returns, or the same error.
 fn growing(numbers: &Numbers, ids: &[u32], kind: Kind, values: &[u32]) {
     let (all, at) = (IdSetBuf::pack(ids).unwrap(), numbers.below(ids.len() + 1));
     let (set, mut builder, mut column) = (IdSetBuf::pack(&ids[..at]).unwrap(), SetBuilder::new(), ColumnBuilder::new(kind));
@@ -189,7 +189,7 @@ fn queries(numbers: &Numbers) {
     assert_eq!(query.ids().unwrap().fold(0, |word, id| word | (1 << id)), word);
 }
 
-/// Blocks of each kind: the widths are those of the greatest codes, and the values come back.
+/// Checks blocks of each kind: the width fits the greatest code, and unpacking returns the values.
 fn chains<P: Packer>(numbers: &Numbers, packer: P) {
     let (blocks, mask, start) = (numbers.below(4), u32::MAX >> numbers.below(32), numbers.next());
     let values: Vec<u32> = (0..blocks * P::BLOCK_LEN).map(|_| numbers.next() & mask).collect();

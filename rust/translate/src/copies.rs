@@ -63,7 +63,7 @@ pub fn second(text: &str, module: &str, file: &str) -> Result<String, Wrong> {
 /// Tokens that are left out at an index, and what is put there.
 type Change = (usize, usize, String);
 
-/// The text of the tokens with changes, but those of tokens that are left out. Those at one index are made in turn.
+/// Returns the text of the tokens with the changes made. Changes at one index are made in turn; a change inside tokens that are left out is skipped.
 fn changed(tokens: &[Token], mut changes: Vec<Change>) -> String {
     changes.sort_by_key(|it| it.0);
     let (mut text, mut left_out) = (String::new(), 0);

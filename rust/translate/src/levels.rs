@@ -4,13 +4,13 @@
 /// A file of a module, by its path in the folder of the crate.
 pub type File = (&'static str, &'static str);
 
-/// The modules that have a second copy. Lists are only read by tests, and the functions for C call the others.
+/// The modules that have a second copy. Chains and the functions for C have none: they call functions that go over to it.
 pub const COPIED: [&str; 6] = ["register", "bitpacking", "groups", "sets", "columns", "ranking"];
 
 /// The features of the level that the functions of the second copy have. `rust/src/level.rs` asks the processor for them.
 pub const FEATURES: &str = "avx2,bmi1,bmi2,lzcnt,popcnt";
 
-/// Types that both copies share. The file of the second copy names those of the first.
+/// Types that both copies share. In the second copy the file of such a type re-exports the type of the first copy.
 pub const SHARED: [(File, &str); 9] = [
     (("bitpacking", "kind.rt"), "Kind"),
     (("groups", "group_error.rt"), "GroupError"),
