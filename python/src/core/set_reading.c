@@ -21,16 +21,19 @@ PyObject *Set_item(PyObject *self, Py_ssize_t at)
     return NULL;
 }
 
-/* The ids from a position on, as a new array. There are as many. */
-static PyObject *range_of(PyObject *self, size_t from, size_t len)
+/* Writes len ids, whose positions are a step apart, from a position on. */
+typedef void Writer(const bitpacking_set *view, Py_ssize_t from, Py_ssize_t step, uint32_t *ids, size_t len);
+
+/* The ids of a slice as a new array. Each call of the writer gets up to `part` of them, for each of which it unpacks `each` ids. */
+static PyObject *written(PyObject *self, Py_ssize_t from, Py_ssize_t step, size_t len, Writer *write, size_t part, size_t each)
 {
     Py_buffer out;
     PyObject *array = new_array(len, type_u32, &out);
     size_t done, count;
 
     for (done = 0; array && done < len; done += count) {
-        count = least_of(len - done, PART);
-        UNLOCKED(count, bitpacking_set_slice(view_of(self), from + done, (uint32_t *)out.buf + done, count));
+        count = least_of(len - done, part);
+        UNLOCKED(count * each, write(view_of(self), from + (Py_ssize_t)done * step, step, (uint32_t *)out.buf + done, count));
         if (PyErr_CheckSignals() < 0) {
             PyBuffer_Release(&out);
             Py_CLEAR(array);
@@ -39,6 +42,18 @@ static PyObject *range_of(PyObject *self, size_t from, size_t len)
     if (array)
         PyBuffer_Release(&out);
     return array;
+}
+
+static void write_all(const bitpacking_set *view, Py_ssize_t from, Py_ssize_t step, uint32_t *ids, size_t len)
+{
+    (void)step;
+    bitpacking_set_slice(view, (size_t)from, ids, len);
+}
+
+/* The ids from a position on, as a new array. There are as many. */
+static PyObject *range_of(PyObject *self, size_t from, size_t len)
+{
+    return written(self, (Py_ssize_t)from, 1, len, write_all, PART, 1);
 }
 
 /* These ids in falling order, as a view of an array that has no others. */
@@ -53,7 +68,7 @@ static PyObject *falling(PyObject *self, size_t from, size_t len)
     return view;
 }
 
-/* Write len ids, whose positions are a step apart, from a position on: those of a short step out of unpacked ones, and others one by one. */
+/* Of a short step: unpacks the ids between too. */
 static void write_near(const bitpacking_set *view, Py_ssize_t from, Py_ssize_t step, uint32_t *ids, size_t len)
 {
     uint32_t part[MANY];
@@ -70,6 +85,7 @@ static void write_near(const bitpacking_set *view, Py_ssize_t from, Py_ssize_t s
     }
 }
 
+/* Of a long step: finds each id by itself. */
 static void write_far(const bitpacking_set *view, Py_ssize_t from, Py_ssize_t step, uint32_t *ids, size_t len)
 {
     size_t i;
@@ -81,23 +97,9 @@ static void write_far(const bitpacking_set *view, Py_ssize_t from, Py_ssize_t st
 /* The ids of a slice with a step, as a new array. */
 static PyObject *stepped(PyObject *self, Py_ssize_t from, Py_ssize_t step, size_t len)
 {
-    const size_t apart = (size_t)(step > 0 ? step : -step), each = apart < SPARSE ? apart : 1;
-    void (*write)(const bitpacking_set *, Py_ssize_t, Py_ssize_t, uint32_t *, size_t) = apart < SPARSE ? write_near : write_far;
-    Py_buffer out;
-    PyObject *array = new_array(len, type_u32, &out);
-    size_t done, count;
+    const size_t apart = (size_t)(step > 0 ? step : -step);
 
-    for (done = 0; array && done < len; done += count) {
-        count = least_of(len - done, FEW);
-        UNLOCKED(count * each, write(view_of(self), from + (Py_ssize_t)done * step, step, (uint32_t *)out.buf + done, count));
-        if (PyErr_CheckSignals() < 0) {
-            PyBuffer_Release(&out);
-            Py_CLEAR(array);
-        }
-    }
-    if (array)
-        PyBuffer_Release(&out);
-    return array;
+    return apart < SPARSE ? written(self, from, step, len, write_near, FEW, apart) : written(self, from, step, len, write_far, FEW, 1);
 }
 
 PyObject *Set_subscript(PyObject *self, PyObject *key)
