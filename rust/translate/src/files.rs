@@ -45,7 +45,7 @@ fn of_crate(crates: &Path, module: Module, twice: bool) -> Result<Files, Wrong> 
         let source = read(&folder.join(&path))?;
         let named = |it: Wrong| Wrong { file: folder.join(&path).display().to_string(), ..it };
         let text = in_rust(&source, module, !unchecked::names(module, &path)).map_err(named)?;
-        let (place, file) = (place(module, &path), path.to_string_lossy());
+        let (place, file) = (place(module.name, &path), path.to_string_lossy());
         if !twice || !COPIED.contains(&module.name) {
             made.insert(place, text);
             continue;
@@ -79,15 +79,14 @@ fn failed(path: &Path, why: impl ToString) -> Wrong {
 }
 
 /// The path of a translated file of a crate.
-fn place(module: Module, path: &Path) -> PathBuf {
-    let folder = Path::new(module.name);
+fn place(module: &str, path: &Path) -> PathBuf {
+    let folder = Path::new(module);
     if path == Path::new("lib.rt") { folder.with_extension("rs") } else { folder.join(path).with_extension("rs") }
 }
 
 /// The path of a file of the second copy of a module.
 fn second((module, file): &(&str, &str)) -> PathBuf {
-    let folder = Path::new("v3").join(module);
-    if *file == "lib.rt" { folder.with_extension("rs") } else { folder.join(file).with_extension("rs") }
+    Path::new("v3").join(place(module, Path::new(file)))
 }
 
 fn read(path: &Path) -> Result<String, Wrong> {
