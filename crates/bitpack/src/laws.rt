@@ -9,10 +9,12 @@ pub use bitpack_lists::laws::{chains_read_back, one_text};
 
 /// A line spells at most one command.
 pub fn one_command()
+    // claim: lines/1 a line is read as the only command that it spells
     ensures { OneCommand }
 {}
 
 /// Every line has exactly one answer.
 pub fn one_answer()
+    // claim: lines/2 the answer is the first refusal, or what the definitions say
     ensures { OneAnswer }
 {}

@@ -110,6 +110,8 @@ pub fn run<R: Read, W: Write>(alloc: Global, reader: &mut R, writer: &mut W) -> 
     ensures read { IsErrOf result RunError.Read → AnswersEnded (R.remaining reader.old) (R.remaining reader.new)
         (W.contents writer.old) (W.contents writer.new) }
     // What was written is a beginning of the answers to what was read.
+    // claim: lines/3-6 after `Ok` all answers were written, after `Read` the answers to the lines that had ended, after `Write` a beginning
+    //   of the answers, after `Memory` whole answers
     ensures stopped { IfErr result (λ e. e ≢ RunError.Read → AnswersInPart (R.remaining reader.old)
         (R.remaining reader.new) (W.contents writer.old) (W.contents writer.new)) }
     // If memory ran out, it is whole answers.

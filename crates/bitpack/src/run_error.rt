@@ -16,6 +16,7 @@ pub enum RunError {
 
 /// The exit status of the program and its message on standard error, which is empty after a run to the end.
 pub fn ending(outcome: &Result<(), RunError>) -> (u8, &'static str)
+    // claim: lines/7 the status and the message of each error
     ensures status { result.0 ≡ ending_status outcome.now }
     ensures message { result.1.now ≡ ending_message outcome.now }
 {

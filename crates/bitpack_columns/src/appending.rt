@@ -26,6 +26,7 @@ use crate::reads::Reads;
 /// before it, then with `Short` if the slice is too short. It writes nothing then. The bytes after the encoding are unchanged.
 ///
 /// The bodies of the whole blocks are copied.
+// claim: columns/15 encodes a column's values with more after them, as `columns/13`
 pub fn append_to(column: &Column, more: &[u32], out: &mut [u8]) -> Result<usize, ColumnError>
     ensures { WritesColumn (kind_of column.now) (values column.now ++ more.now) result out.old out.new }
 {

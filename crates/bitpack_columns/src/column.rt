@@ -60,6 +60,7 @@ impl<'a> Column<'a> {
     /// Opens an encoded column. Tests all bytes, accepts any, and allocates nothing.
     pub fn open(bytes: &'a [u8]) -> Result<Column<'a>, ColumnError>
         // Bytes with a fault are refused for the first, and bytes without one are opened.
+        // claim: columns/1 opens exactly a column's bytes, as that column; names others' first fault
         ensures fault { Finds result (fault bytes.now) }
         ensures bytes { IfOk result (λ column. encoding_of column ≡ bytes.now) }
         ensures kind { IfOk result (λ column. kind_of column ≡ kind_in bytes.now) }
@@ -80,6 +81,7 @@ impl<'a> Column<'a> {
     /// The column whose bytes were opened before: they are not tested again. It is for a caller who stores only the bytes of columns that
     /// were opened.
     pub fn of_tested(bytes: &'a [u8]) -> Column<'a>
+        // claim: columns/3 as `sets/11`
         requires sound { fault bytes.now ≡ None }
         ensures bytes { encoding_of result ≡ bytes.now }
         ensures kind { kind_of result ≡ kind_in bytes.now }
@@ -135,6 +137,7 @@ impl<'a> Column<'a> {
     }
 
     /// How many whole blocks of 128 values there are. The other values, fewer than 128, are the tail.
+    // claim: columns/2 kind, number of values, of whole blocks
     pub fn blocks(&self) -> usize
         ensures { result ≡ blocks_of self.now }
     {

@@ -75,6 +75,8 @@ impl<'a> ColumnCursor<'a> {
     /// The values from here to the end of the block. The slice is empty only after the last value.
     #[inline(always)]
     pub fn block(&self) -> &[u32]
+        // claim: columns/11-12 a cursor: value, rest of the block; moves by these or to a position; unpacks a block only if it comes from
+        //   another
         ensures values { result.now ≡ take (128 - position_of self.now % 128) (left_of self.now) }
         ensures some { position_of self.now < length (all_of self.now) → 0 < length result.now }
     {

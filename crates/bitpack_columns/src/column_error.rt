@@ -46,6 +46,7 @@ impl ColumnError {
     ghost use Rattle.bitpack_columns.specs.Errors.{number_of_error};
 
     /// Returns the number of the refusal. Refusals that id sets and packed lists have too have the same number.
+    // claim: columns/18 a number for each refusal, as for sets
     pub fn number(&self) -> u8
         ensures { result ≡ number_of_error self.now }
     {

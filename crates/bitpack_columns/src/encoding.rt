@@ -66,6 +66,7 @@ pub fn encode_to(kind: ColumnKind, values: &[u32], bytes: &mut [u8]) -> Result<u
 /// Appends the encoding of a column. The vector grows at most once.
 ///
 /// The values are a column as for [`encoded_len`].
+// claim: columns/13 as `sets/7-9`, of values, in order if sorted
 pub fn encode(kind: ColumnKind, values: &[u32], out: &mut Vec<u8>) -> Result<(), ColumnError>
     ensures { AppendsColumn kind values.now result out.old out.new }
 {

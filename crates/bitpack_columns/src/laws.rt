@@ -14,6 +14,7 @@ pub fn one_encoding()
 {}
 
 /// A column of n values has at most 17 * n / 4 + 16 bytes, rounded down.
+// claim: columns/16-17 unique encoding, of at most 17 * n / 4 + 16 bytes
 pub fn longest_encoding()
     ensures { LongestEncoding }
 {}

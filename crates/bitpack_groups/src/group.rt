@@ -124,6 +124,7 @@ pub fn write_group(codes: &[u32], bytes: &mut [u8]) -> usize
     requires room { (part : List ℕ) → IsGroup codes.now part → length part ≤ length bytes.old }
     ensures within { result ≤ length bytes.new }
     ensures bytes { AreBytes (take result bytes.new) }
+    // claim: groups/4-5 reads and writes groups; other bytes of the slice may change
     ensures group { IsGroup codes.now (take result bytes.new) }
 {
     let width = least_width(codes);

@@ -29,6 +29,7 @@ pub fn test_groups<'a>(
 ) -> Result<&'a [u8], GroupError>
     requires block { block ≤ 2 ^ 28 }
     requires few { length codes.old ≤ 2 ^ 28 }
+    // claim: groups/3 groups/6 whether bytes begin with groups of codes, or their first fault; the length of the groups
     ensures fault { FindsFault result
         (groups_fault (groups_of (length codes.old)) block (length codes.old) bytes.now) }
     ensures codes { OnOk result (codes.new ≡ groups_codes (groups_of (length codes.old)) (length codes.old) bytes.now) }

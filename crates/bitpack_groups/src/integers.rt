@@ -7,6 +7,7 @@ ghost use Rattle.bitpack_groups.specs.Packed.{le_bytes};
 
 /// Returns integer `index` of those that have `size` bytes each and begin at `start`. If four bytes are there, it reads these at once.
 #[inline(always)]
+// claim: groups/9 reads and writes integers of one to four bytes
 pub fn read_integer(size: usize, bytes: &[u8], start: usize, index: usize) -> u32
     requires size { (1 ≤ size) × (size ≤ 4) }
     requires within { start + size * index + size ≤ length bytes.now }

@@ -20,6 +20,7 @@ pub fn one_group()
 {}
 
 /// A number has at most five bytes, and a group at most one beside four for each code.
+// claim: groups/7-8 a number and a group have one form each, of at most 5 bytes, and 1 byte and 4 a code
 pub fn longest()
     ensures number { LongestNumber }
     ensures group { LongestGroup }

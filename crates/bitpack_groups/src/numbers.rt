@@ -44,6 +44,7 @@ pub fn test_number(bytes: &[u8]) -> Result<(u32, usize), GroupError>
 /// Tests the number at the front of the bytes as a count that is at least `least`. Returns it, and how many bytes it has.
 #[tactic(auto, unfolding(crate::specs::Numbers::count_fault))]
 pub fn test_count(least: usize, bytes: &[u8]) -> Result<(usize, usize), GroupError>
+    // claim: groups/1 whether bytes begin with a varint, a count of at most 268,435,456
     ensures fault { FindsFault result (count_fault least bytes.now) }
     ensures value { IfOk result (λ found. (found.0 ≡ number_value bytes.now) × (found.0 ≤ 2 ^ 28)) }
     ensures least { IfOk result (λ found. least ≤ found.0) }
@@ -82,6 +83,7 @@ pub fn unpack_number(bytes: &[u8]) -> (u32, usize)
 pub fn write_number(value: u32, bytes: &mut [u8]) -> usize
     requires room { length (number value) ≤ length bytes.old }
     ensures len { result ≡ length (number value) }
+    // claim: groups/2 reads, writes, measures a varint
     ensures number { take result bytes.new ≡ number value }
 {
     let mut left = value;

@@ -22,7 +22,9 @@ pub fn pack_all<P: BitPacker>(
     requires room { 4 * length values.now ≤ length out.old }
     ensures size { result ≡ 4 * P.lanes * sum widths.new }
     ensures few { result ≤ 4 * length values.now }
+    // claim: chains/2 `unpack_all` accepts the widths and bytes
     ensures narrow { All (λ width. width ≤ 32) widths.new }
+    // claim: chains/1 writes each block at its least width
     ensures chain { Chained P.lanes kind values.now widths.new (take result out.new) }
     ensures rest { drop result out.new ≡ drop result out.old }
 {
@@ -56,6 +58,7 @@ pub fn pack_measured<P: BitPacker>(
 }
 
 /// Returns the number of bytes that [`pack_all`] and [`pack_measured`] write for the whole blocks of these values.
+// claim: chains/6 returns the chain's length, which is enough room for `pack_measured`
 pub fn packed_len<P: BitPacker>(packer: &P, kind: Kind, values: &[u32]) -> usize
     ensures { IsChainSize P.lanes kind values.now (length values.now / P.BLOCK_LEN) result }
 {
@@ -87,6 +90,7 @@ pub fn unpack_all<P: BitPacker>(
     requires bytes { 4 * P.lanes * sum widths.now ≤ length bytes.now }
     requires room { P.BLOCK_LEN * length widths.now ≤ length values.old }
     ensures size { result ≡ 4 * P.lanes * sum widths.now }
+    // claim: chains/3 writes the values of any widths up to 32 and any bytes
     ensures chain { Loose P.lanes kind (take (P.BLOCK_LEN * length widths.now) values.new) widths.now
         (take result bytes.now) }
     ensures rest { drop (P.BLOCK_LEN * length widths.now) values.new

@@ -6,6 +6,7 @@
 ghost use Rattle.bitpack_lists.specs.Laws.{ChainsReadBack, LooseFitsSmaller, NoFault1, NoFault2, OneEncoding1, OneEncoding2, OneList1, OneList2};
 
 /// `unpack_all` returns the values that `pack_all` packed.
+// claim: chains/4 unpacking returns what was packed
 pub fn chains_read_back()
     ensures { ChainsReadBack }
 {}
@@ -16,7 +17,9 @@ pub fn one_text()
     ensures encoding { OneEncoding1 }
     ensures list { OneList1 }
     ensures fault { NoFault1 }
+    // claim: lists/9 unique encoding; which widths are loose
     ensures loose { LooseFitsSmaller }
+    // claim: lists2/15 unique encoding
     ensures encoding2 { OneEncoding2 }
     ensures list2 { OneList2 }
     ensures fault2 { NoFault2 }

@@ -37,6 +37,7 @@ pub enum ListError {
 
 impl ListError {
     /// Returns the number of the refusal: from 1 to 12 in the order of the variants.
+    // claim: lists/8 numbers the errors 1 to 12
     pub fn number(&self) -> u8
         ensures { result ≡ number_of self.now }
     {

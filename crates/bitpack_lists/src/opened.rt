@@ -45,6 +45,7 @@ impl<'a, P: BitPacker> PackedList<'a, P> {
         ensures bytes { IfOk result (λ list. encoding list ≡ bytes.now) }
         // The bytes encode the list of this kind and these values, and no other.
         ensures list { IfOk result (λ list. List2 P.lanes (kind_of list) (values list) bytes.now) }
+        // claim: lists2/3 opens bytes as the only list that they encode, or names their first fault
         ensures only { IfOk result (λ list.
             EncodesNoOther P.lanes (kind_of list) (values list) bytes.now) }
     {
@@ -67,6 +68,7 @@ impl<'a, P: BitPacker> PackedList<'a, P> {
     }
 
     /// The value at a position, or `None` from the length on. Unpacks at most one block.
+    // claim: lists2/4 `len`, `kind`, the value at a position
     pub fn get(&self, position: usize) -> Option<u32>
         ensures { result ≡ slice_get (values self.now) position }
     {

@@ -5,7 +5,7 @@ use Rattle.std.specs.Ordering.{ord_max, ord_min}
 use Rattle.std.proofs.lemmas.Bool.{cases_lt, le-ltb, lt-ltb}
 use Rattle.std.proofs.lemmas.Bool.Decides.{nat_tests}
 use Rattle.std.proofs.lemmas.List.{get_or-take, length-take}
-use Rattle.bitpack_sets.specs.Reads.{rank}
+use Rattle.bitpack_slices.specs.Reads.{rank}
 use Rattle.bitpack_ranked.specs.declared.walk.Walk.{Walk}
 use Rattle.bitpack_ranked.specs.Ranked.{part_in, position_of}
 use Rattle.bitpack_ranked.specs.Scores.{part_at}

@@ -5,7 +5,7 @@ use Rattle.std.specs.List.Sorted.{IsStrictlyIncreasing}
 use Rattle.std.proofs.lemmas.Bool.{ltb-true}
 use Rattle.std.proofs.lemmas.List.{get_or-take, length-take}
 use Rattle.std.proofs.lemmas.List.Sums.{sum_by-cons}
-use Rattle.bitpack_sets.specs.Reads.{has}
+use Rattle.bitpack_slices.specs.Reads.{has}
 use Rattle.bitpack_ranked.specs.declared.candidates.Candidates.{Candidates}
 use Rattle.bitpack_ranked.specs.declared.found.Scored.{Scored}
 use Rattle.bitpack_ranked.specs.Ranked.{has_word, part_in, position_of}

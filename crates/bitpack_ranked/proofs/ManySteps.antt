@@ -8,8 +8,8 @@ use Rattle.std.proofs.lemmas.Bool.{cases_lt, eq-eqb, le-leb, lt-leb, eqb-true, l
 use Rattle.std.proofs.lemmas.List.{get_or-drop, get_or-take, length-drop, length-take, take_all}
 use Rattle.std.proofs.Math.Seq.{take-add}
 use Rattle.std.proofs.lemmas.List.Folds.{list_any-append, list_any_at, list_any_more}
-use Rattle.bitpack_sets.specs.Reads.{has}
-use Rattle.bitpack_sets.specs.Slices.{first_fall}
+use Rattle.bitpack_slices.specs.Reads.{has}
+use Rattle.bitpack_slices.specs.Slices.{first_fall}
 use Rattle.bitpack_ranked.specs.declared.found.Scored.{Scored}
 use Rattle.bitpack_ranked.specs.Ranked.{AreBest, IsScored, part_in, position_of}
 use Rattle.bitpack_ranked.specs.Terms.{Word}

@@ -4,8 +4,8 @@ use Rattle.std.specs.List.Sorted.{IsStrictlyIncreasing}
 use Rattle.std.proofs.lemmas.Bool.{cases_lt, eq-eqb, eqb-true, le-ltb, lt-ltb}
 use Rattle.std.proofs.lemmas.List.{get_or-drop, get_or-take}
 use Rattle.std.proofs.lemmas.List.Sums.{passes_at_first, position_or_len_is}
-use Rattle.bitpack_sets.specs.Reads.{has, rank}
-use Rattle.bitpack_sets.specs.Sets.{IsRising}
+use Rattle.bitpack_slices.specs.Reads.{has, rank}
+use Rattle.bitpack_slices.specs.Bodies.{IsRising}
 use Rattle.bitpack_ranked.specs.Ranked.{position_of}
 use Rattle.bitpack_ranked.specs.inner.Walks.{AreOfBlock}
 use Rattle.bitpack_ranked.proofs.RankLaws.{before_rank, from_rank, rising-increasing}

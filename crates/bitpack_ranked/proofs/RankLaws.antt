@@ -2,8 +2,8 @@
 use Rattle.std.proofs.Common.{◌≡◌, ℕ, zero, suc, ◌+◌, ◌<◌, ◌≤◌, List, [], ◌∷◌, length, get_or, refl, ap, inl, inr, arith}
 use Rattle.std.specs.List.Sorted.{IsStrictlyIncreasing}
 use Rattle.std.proofs.lemmas.Bool.{cases_lt, le-ltb, lt-ltb}
-use Rattle.bitpack_sets.specs.Reads.{rank}
-use Rattle.bitpack_sets.specs.Sets.{IsRising}
+use Rattle.bitpack_slices.specs.Reads.{rank}
+use Rattle.bitpack_slices.specs.Bodies.{IsRising}
 
 -- each of rising numbers is at least the first bound
 pub from_low : (low high : ℕ) (xs : List ℕ) → IsRising low high xs → (k : ℕ) → k < length xs → low ≤ get_or xs k 0

@@ -1,7 +1,7 @@
 -- The best documents of a query by a score that adds up what each of its words is worth.
 use Rattle.std.specs.Prelude.{◌≡◌, ℕ, ◌<◌, ◌≤◌, ◌⊎◌, ◌==◌, Bool, true, nat_lt, if◌then◌else◌, List, length, slice_index, slice_index_or, All, Contains}
 use Rattle.std.specs.List.{count_by, position_or_len, sum_by}
-use Rattle.bitpack_sets.specs.Reads.{has}
+use Rattle.bitpack_slices.specs.Reads.{has}
 use Rattle.bitpack_ranked.specs.declared.found.Scored.{Scored}
 use Rattle.bitpack_ranked.specs.Scores.{part_at}
 use Rattle.bitpack_ranked.specs.Terms.{Word}

@@ -3,7 +3,7 @@
 ghost use Rattle.std.specs.Prelude.{◌≡◌, ◌≢◌, ℕ, ◌⊎◌, ◌+◌, ◌*◌, ◌/◌, ◌^◌, ◌<◌, ◌≤◌, List, if◌then◌else◌, length, slice_index};
 ghost use Rattle.std.specs.List.{filter};
 ghost use Rattle.std.specs.List.Sorted.{IsStrictlyIncreasing};
-ghost use Rattle.bitpack_sets.specs.Reads.{has, rank};
+ghost use Rattle.bitpack_slices.specs.Reads.{has, rank};
 ghost use Rattle.bitpack_ranked.specs.Ranked.{has_word, part_in};
 ghost use Rattle.bitpack_ranked.specs.Scores.{part_at};
 ghost use Rattle.bitpack_ranked.specs.inner.Walks.{Adds, IsAfter, IsUnpacked};

@@ -2,8 +2,8 @@
 
 ghost use Rattle.std.specs.Prelude.{◌≡◌, ℕ, Bool, false, ◌||◌, ◌^◌, ◌<◌, ◌≤◌, Err, IfOk, IsOk, MatchOption, OnErr, length, map, slice_index, take, true};
 ghost use Rattle.std.specs.List.Sorted.{IsStrictlyIncreasing};
-ghost use Rattle.bitpack_sets.specs.Reads.{has};
-ghost use Rattle.bitpack_sets.specs.Slices.{first_fall};
+ghost use Rattle.bitpack_slices.specs.Reads.{has};
+ghost use Rattle.bitpack_slices.specs.Slices.{first_fall};
 ghost use Rattle.bitpack_ranked.specs.Ranked.{AreBest, IsAmong, IsScored};
 
 use crate::as_term::AsTerm;
@@ -29,6 +29,8 @@ pub fn best_among<T: AsTerm>(
     requires few { length terms.now ≤ 2 ^ 31 }
     ensures fault { MatchOption (first_fall 0 documents.now) (IsOk result) (λ position. result ≡ Err position) }
     ensures len { IfOk result (λ len. len ≤ length found.old) }
+    // claim: ranked/4 writes the best of given increasing documents, as a scan does; one with none of the words has score 0; refuses the
+    //   first that is out of order
     ensures best { IfOk result (λ len. AreBest (IsAmong documents.now (map T.its_word terms.now) classes.now) (length found.old) (take len found.new)) }
     ensures unchanged { OnErr result (found.new ≡ found.old) }
 {

@@ -2,11 +2,11 @@
 
 ghost use Rattle.std.specs.Prelude.{◌≡◌, ◌≢◌, ◌+◌, ◌^◌, ◌<◌, ◌≤◌, ℕ, List, if◌then◌else◌, length, map, slice_index, take};
 ghost use Rattle.std.specs.List.{count_by, filter};
-ghost use Rattle.bitpack_sets.specs.Reads.{has};
+ghost use Rattle.bitpack_slices.specs.Reads.{has};
 ghost use Rattle.bitpack_ranked.specs.Ranked.{has_word};
 
 use crate::as_term::AsTerm;
-use bitpack_sets::retain_if;
+use bitpack_queries::retain_if;
 
 /// Adds to the number of each id how many of the words it has.
 pub(crate) fn count_others<T: AsTerm>(terms: &[T], ids: &[u32], counts: &mut [usize])

@@ -21,6 +21,7 @@ pub struct Parts<'a> {
 impl<'a> Parts<'a> {
     /// The parts of a table, or `None` if it is not one.
     pub fn new(table: &'a [u32]) -> Option<Parts<'a>>
+        // claim: ranked/3 a table of parts of scores: whole rows, monotone, first part greatest; `of_tested` requires one
         ensures table { IfSome result (λ parts. parts.table.now ≡ table.now) }
         ensures none { result ≡ None → IsTable table.now → ⊥ }
     {

@@ -35,6 +35,7 @@ pub fn best<T: AsTerm>(
     requires few { length terms.now ≤ 2 ^ 31 }
     requires room { length terms.now ≤ length walks.old }
     ensures len { result ≤ length found.old }
+    // claim: ranked/1 writes the best documents with enough words, as a scan does, ties by lower id; at most 2^31 words
     ensures best { AreBest (IsHit (map T.its_word terms.now) classes.now (max 1 at_least)) (length found.old) (take result found.new) }
 {
     clear(walks);

@@ -4,7 +4,7 @@ ghost use Rattle.std.specs.Prelude.{◌≡◌, length};
 ghost use Rattle.bitpack_columns.specs.Opened.{values};
 ghost use Rattle.bitpack_sets.specs.Opened.{ids};
 ghost use Rattle.std.proofs.Props.{props};
-ghost use Rattle.bitpack_sets.specs.Props.{rising_prop};
+ghost use Rattle.bitpack_slices.specs.Props.{rising_prop};
 ghost use Rattle.bitpack_sets.specs.Sets.{IsSet};
 ghost use Rattle.bitpack_ranked.specs.Terms.{IsWord, Word};
 
@@ -33,6 +33,7 @@ impl<'a> Term<'a> {
 
     /// A word of a set and a column, with as many ids as counts.
     pub fn new(set: IdSet<'a>, counts: Column<'a>, parts: Parts<'a>) -> Result<Term<'a>, TermError>
+        // claim: ranked/2 a word of ids, as many counts, and a table
         ensures term { IfOk result (λ term.
             (term.set ≡ set.entry) × (term.counts ≡ counts.entry) × (term.parts ≡ parts.entry)) }
         ensures length { IfErr result (λ e. length (values counts.entry) ≢ length (ids set.entry)) }

@@ -1,8 +1,8 @@
 -- What a builder holds of a set, and what pushing ids does to it.
 use Rattle.std.specs.Prelude.{◌≡◌, ℕ, ◌+◌, ◌<◌, List, ◌++◌, length, None, Result, Err, IfErr, MatchOption, OnErr, OnOk, vec_capacity}
 use Rattle.bitpack_sets.specs.declared.set_builder.SetBuilder.{SetBuilder}
-use Rattle.bitpack_sets.specs.declared.set_error.SetError.{SetError}
-use Rattle.bitpack_sets.specs.declared.set_error.SetError.TheVariants.{Memory}
+use Rattle.bitpack_slices.specs.declared.set_error.SetError.{SetError}
+use Rattle.bitpack_slices.specs.declared.set_error.SetError.TheVariants.{Memory}
 use Rattle.bitpack_sets.specs.Written.{refusal}
 
 -- the ids so far

@@ -2,17 +2,13 @@
 use Rattle.std.specs.Prelude.{◌≡◌, ◌≢◌, ℕ, ◌+◌, ◌-◌, ◌*◌, ◌<◌, ◌≤◌, false, ◌/◌, ◌%◌, ◌==◌, if◌then◌else◌, List, [], ◌∷◌, map, length, slice_index, take, drop}
 use Rattle.std.specs.List.{range_with_len}
 use Rattle.bitpack_sets.specs.Directory.{chunk_at, ids_of_chunks}
-use Rattle.bitpack_sets.specs.Reads.{has}
-use Rattle.bitpack_sets.specs.Selections.{parts_numbers}
-use Rattle.bitpack_sets.specs.Slices.{pairs_of, quads_of}
-use Rattle.bitpack_sets.specs.Bitmaps.{has_bit}
+use Rattle.bitpack_slices.specs.Reads.{has}
+use Rattle.bitpack_slices.specs.Selections.{parts_numbers}
+use Rattle.bitpack_slices.specs.Slices.{quads_of}
+use Rattle.bitpack_slices.specs.Bitmaps.{has_bit}
 use Rattle.bitpack_sets.specs.declared.chunks.Chunks.{Chunks}
 use Rattle.bitpack_sets.specs.declared.finding.Own.{Own}
 use Rattle.bitpack_sets.specs.declared.finding.Own.TheVariants.{Between, Bits, Blocks}
-
--- the low 16 bits of integers of two or of four bytes
-abbrev pub lows_of : ℕ → List ℕ → List ℕ
-lows_of size bytes = if size == 2 then pairs_of bytes else map (λ x. x % 65536) (quads_of bytes)
 
 -- the ids from a position on
 abbrev pub ids_from : Chunks → ℕ → List ℕ

@@ -1,7 +1,7 @@
 -- What a reader finds in a set in chunks. The rest of its bytes is what is after the count of chunks.
 use Rattle.std.specs.Prelude.{ℕ, zero, suc, ◌+◌, ◌-◌, ◌*◌, ◌/◌, ◌%◌, ◌==◌, if◌then◌else◌, List, map, length, take, drop, slice_index}
 use Rattle.std.specs.List.{flat_map, range_with_len}
-use Rattle.bitpack_sets.specs.Slices.{block_numbers, pairs_of}
+use Rattle.bitpack_slices.specs.Slices.{block_numbers, pairs_of}
 use Rattle.bitpack_sets.specs.Varints.{short_at}
 
 -- how many bytes an end has, and a sum

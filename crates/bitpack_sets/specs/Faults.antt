@@ -1,12 +1,13 @@
 -- The first fault of bytes as an encoded set.
 use Rattle.std.specs.Prelude.{ℕ, zero, suc, ◌+◌, ◌-◌, ◌*◌, ◌^◌, ◌&&◌, ◌||◌, ◌==◌, not, nat_lt, nat_le, if◌then◌else◌, List, [], ◌∷◌, length, take, drop, slice_index, Option, Some, None}
 use Rattle.std.specs.Option.{option_map, option_or}
-use Rattle.bitpack_sets.specs.declared.set_error.SetError.{SetError}
-use Rattle.bitpack_sets.specs.declared.set_error.SetError.TheVariants.{Short, BadVersion, TooLong, BadOffset, NotSorted, Trailing, BadNumber, BadSizes, BadKey, BadSum, BadBody, LooseBody, LooseForm}
+use Rattle.bitpack_slices.specs.declared.set_error.SetError.{SetError}
+use Rattle.bitpack_slices.specs.declared.set_error.SetError.TheVariants.{Short, BadVersion, TooLong, BadOffset, NotSorted, Trailing, BadNumber, BadSizes, BadKey, BadSum, LooseForm}
 use Rattle.bitpack_sets.specs.Directory.{before, bodies_end, bodies_start, body_at, count_at, end_at, end_size, key_at, size_at, sum_at, sum_size}
-use Rattle.bitpack_sets.specs.Sets.{blocks, parts}
-use Rattle.bitpack_sets.specs.Slices.{are_blocks, first_fall, pairs_of, quads_of}
+use Rattle.bitpack_slices.specs.Bodies.{parts}
+use Rattle.bitpack_slices.specs.Slices.{first_fall, quads_of}
 use Rattle.bitpack_sets.specs.Varints.{after_groups, byte_count, groups_codes, groups_fault, groups_of, number_end, number_fault, number_value, of}
+use Rattle.bitpack_slices.specs.Faults.{body_fault}
 
 -- bytes are missing before an end, or are left after it
 abbrev pub short_of : ℕ → List ℕ → Option SetError
@@ -71,17 +72,6 @@ ids_fault ids rest =
 -- of what is after byte 0 of an array
 unfoldable pub array_fault : List ℕ → Option SetError
 array_fault bytes = option_or (count_fault bytes) (ids_fault (number_value bytes) (drop (number_end bytes) bytes))
-
--- ---- chunks
-
--- of the body of chunk m, of `count` numbers after `position` others
-unfoldable pub body_fault : ℕ → ℕ → ℕ → List ℕ → Option SetError
-body_fault m position count body =
-    if length body == 2 * count then
-    option_or (option_map NotSorted (first_fall position (pairs_of body)))
-    (if nat_lt (length (blocks (pairs_of body))) (2 * count) then Some (LooseBody m) else None)
-    else if are_blocks count body then None
-    else Some (BadBody m)
 
 -- of the byte of the sizes
 unfoldable pub sizes_fault : List ℕ → Option SetError

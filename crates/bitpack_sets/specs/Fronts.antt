@@ -3,12 +3,13 @@ use Rattle.std.specs.Prelude.{◌≡◌, ℕ, ◌+◌, ◌-◌, ◌*◌, ◌^◌
 use Rattle.std.specs.List.{range_with_len}
 use Rattle.bitpack_sets.specs.declared.encoding.copying.Front.{Front}
 use Rattle.bitpack_sets.specs.Directory.{chunk_at, ids_of_chunks}
-use Rattle.bitpack_sets.specs.Sets.{IsRising, IsSet}
+use Rattle.bitpack_slices.specs.Bodies.{IsRising}
+use Rattle.bitpack_sets.specs.Sets.{IsSet}
 use Rattle.bitpack_sets.specs.Written.{last_chunk}
 
 -- the ids of all chunks but the last
 abbrev pub front_ids : Front → List ℕ
-front_ids front = ids_of_chunks (map (chunk_at front.chunks front.rest.now) (range_with_len 0 (front.chunks - 1)))
+front_ids front = ids_of_chunks (map (chunk_at front.directory.chunks front.directory.rest.now) (range_with_len 0 (front.directory.chunks - 1)))
 
 -- the ids increase, and none is in a chunk of the others
 pub record IsNext (first later : List ℕ) : Type 0 where

@@ -1,20 +1,8 @@
 -- Two sets that are combined chunk by chunk: what is left of the answer, and what has the next key.
-use Rattle.std.specs.Prelude.{◌≡◌, ◌≢◌, ℕ, ◌+◌, ◌-◌, ◌/◌, ◌%◌, ◌<◌, ◌≤◌, Bool, false, slice_index}
-use Rattle.bitpack_sets.specs.Chunks.{ids_from, lows_between, positions}
-use Rattle.bitpack_sets.specs.Operations.{apply}
-use Rattle.bitpack_sets.specs.Reads.{has}
-use Rattle.bitpack_sets.specs.Slices.{quads_of}
+use Rattle.std.specs.Prelude.{◌≡◌, ◌≢◌, ℕ, ◌+◌, ◌/◌, ◌<◌, ◌≤◌, slice_index}
+use Rattle.bitpack_sets.specs.Chunks.{positions}
+use Rattle.bitpack_slices.specs.Slices.{quads_of}
 use Rattle.bitpack_sets.specs.declared.chunks.Chunks.{Chunks}
-use Rattle.bitpack_sets.specs.declared.pairing.Meeting.{Meeting}
-use Rattle.bitpack_sets.specs.declared.pairing.Pair.{Pair}
-
--- an id is in the answer of what is left
-unfoldable pub left : Pair → ℕ → Bool
-left pair x = apply pair.operation (has x (ids_from pair.a pair.i)) (has x (ids_from pair.b pair.j))
-
--- how many chunks, or ids of an array, are left of both
-abbrev pub positions_left : Pair → ℕ
-positions_left pair = (positions pair.a - pair.i) + (positions pair.b - pair.j)
 
 -- the positions between which the ids of a key lie
 pub record IsSpan (set : Chunks) (key position end : ℕ) : Type 0 where
@@ -22,22 +10,3 @@ pub record IsSpan (set : Chunks) (key position end : ℕ) : Type 0 where
   pub within : end ≤ positions set
   pub one : set.count ≢ 0 → end ≤ position + 1
   pub shared : set.count ≡ 0 → (k : ℕ) → position ≤ k → k < end → slice_index (quads_of set.rest.now) k / 65536 ≡ key
-
--- the ids of a key that is one of a u32, in both sets
-pub record IsMeeting (pair : Pair) (meeting : Meeting) : Type 0 where
-  pub small : meeting.key < 65536
-  pub a_span : IsSpan pair.a meeting.key meeting.a.0 meeting.a.1
-  pub b_span : IsSpan pair.b meeting.key meeting.b.0 meeting.b.1
-
--- whether the answer has an id of the key, by its low 16 bits
-abbrev pub meets : Pair → Meeting → ℕ → Bool
-meets pair meeting low =
-    apply pair.operation (has low (lows_between pair.a meeting.a.0 meeting.a.1)) (has low (lows_between pair.b meeting.b.0 meeting.b.1))
-
--- a key of an answer: what has a lower key is not in it, what has its key is told by its low 16 bits, and what is higher comes after it
-pub record IsPart (key : ℕ) (test before after : ℕ → Bool) : Type 0 where
-  pub small : key < 65536
-  pub lower : (x : ℕ) → x / 65536 < key → before x ≡ false
-  pub own : (x : ℕ) → x / 65536 ≡ key → before x ≡ test (x % 65536)
-  pub passed : (x : ℕ) → x / 65536 ≤ key → after x ≡ false
-  pub higher : (x : ℕ) → key < x / 65536 → before x ≡ after x

@@ -1,7 +1,8 @@
 -- What opening finds of a set in chunks, and what reading one relies on.
 use Rattle.std.specs.Prelude.{◌≡◌, ℕ, ◌+◌, ◌*◌, ◌<◌, ◌≤◌, List, length}
 use Rattle.bitpack_sets.specs.Directory.{before, bodies_end, bodies_start, body_at, body_numbers_of, count_at, end_at, end_size, key_at, size_at, sum_at, sum_size}
-use Rattle.bitpack_sets.specs.Sets.{IsRising, body}
+use Rattle.bitpack_slices.specs.Bodies.{IsRising}
+use Rattle.bitpack_sets.specs.Sets.{body}
 use Rattle.bitpack_sets.specs.Varints.{byte_count}
 
 -- these `count` numbers have this body

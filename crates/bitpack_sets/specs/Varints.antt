@@ -3,8 +3,8 @@ use Rattle.std.specs.Prelude.{Option}
 use Rattle.std.specs.Option.{option_map}
 use Rattle.bitpack_groups.specs.declared.group_error.GroupError.{GroupError}
 use Rattle.bitpack_groups.specs.declared.group_error.GroupError.TheVariants as groups
-use Rattle.bitpack_sets.specs.declared.set_error.SetError.{SetError}
-use Rattle.bitpack_sets.specs.declared.set_error.SetError.TheVariants.{Short, BadNumber, TooLong, BadWidth, LooseWidth, Padding}
+use Rattle.bitpack_slices.specs.declared.set_error.SetError.{SetError}
+use Rattle.bitpack_slices.specs.declared.set_error.SetError.TheVariants.{Short, BadNumber, TooLong, BadWidth, LooseWidth, Padding}
 pub use Rattle.bitpack_groups.specs.Numbers.{byte_count, number}
 unfoldable pub use Rattle.bitpack_groups.specs.Numbers.{going_on, number_end, number_fault, number_in, number_value, short_at}
 pub use Rattle.bitpack_groups.specs.Groups.{AreGroups, IsGroup, groups_of}

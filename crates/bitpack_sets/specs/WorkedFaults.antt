@@ -1,7 +1,7 @@
 -- Encodings worked by hand that are refused, and what opens.
 use Rattle.std.specs.Prelude.{◌≡◌, ℕ, ◌*◌, ◌/◌, ◌%◌, List, [], ◌∷◌, ◌++◌, replicate, Some, None}
 use Rattle.std.specs.List.{flat_map, range_with_len}
-use Rattle.bitpack_sets.specs.declared.set_error.SetError.TheVariants.{Short, BadVersion, TooLong, BadOffset, NotSorted, Trailing, BadNumber, BadSizes, Padding, BadSum, BadBody, LooseBody, LooseForm}
+use Rattle.bitpack_slices.specs.declared.set_error.SetError.TheVariants.{Short, BadVersion, TooLong, BadOffset, NotSorted, Trailing, BadNumber, BadSizes, Padding, BadSum, BadBody, LooseBody, LooseForm}
 use Rattle.bitpack_sets.specs.Faults.{fault}
 
 abbrev pub WorkedFaults : Type 0

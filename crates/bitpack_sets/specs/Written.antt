@@ -3,10 +3,11 @@ use Rattle.std.specs.Prelude.{◌≡◌, ◌≢◌, ℕ, ◌+◌, ◌-◌, ◌*�
 use Rattle.std.specs.List.{concat, filter, flat_map}
 use Rattle.std.specs.Option.{option_map}
 use Rattle.std.specs.declared.vec.Vec.{Vec}
-use Rattle.bitpack_sets.specs.declared.set_error.SetError.{SetError}
-use Rattle.bitpack_sets.specs.declared.set_error.SetError.TheVariants.{Memory, NotSorted, Short, TooLong}
-use Rattle.bitpack_sets.specs.Sets.{IsRising, IsSet, body, encoding, le_bytes, parts, slice, sums}
-use Rattle.bitpack_sets.specs.Slices.{first_fall}
+use Rattle.bitpack_slices.specs.declared.set_error.SetError.{SetError}
+use Rattle.bitpack_slices.specs.declared.set_error.SetError.TheVariants.{Memory, NotSorted, Short, TooLong}
+use Rattle.bitpack_slices.specs.Bodies.{IsRising, le_bytes, parts, slice}
+use Rattle.bitpack_sets.specs.Sets.{IsSet, body, encoding, sums}
+use Rattle.bitpack_slices.specs.Slices.{first_fall}
 use Rattle.bitpack_sets.specs.Varints.{number}
 
 -- why a writer refuses ids: they are too many, or one is not above the one before

@@ -3,10 +3,11 @@
 
 ghost use Rattle.std.specs.Prelude.{◌≡◌, ◌+◌, ◌-◌, ◌*◌, ◌^◌, ◌≤◌, ◌<◌, ◌++◌, [], IfErr, IfOk, OnErr, OnOk, drop, length, take, vec_capacity, vec_len};
 ghost use Rattle.std.specs.List.{concat};
-ghost use Rattle.bitpack_sets.specs.Errors.{Finds};
+ghost use Rattle.bitpack_slices.specs.Errors.{Finds};
 ghost use Rattle.bitpack_sets.specs.Fronts.{IsFront, IsNext, front_ids};
 ghost use Rattle.bitpack_sets.specs.Opened.{ids};
-ghost use Rattle.bitpack_sets.specs.Sets.{IsSet, encoding, in_chunks, parts};
+ghost use Rattle.bitpack_slices.specs.Bodies.{parts};
+ghost use Rattle.bitpack_sets.specs.Sets.{IsSet, encoding, in_chunks};
 ghost use Rattle.bitpack_sets.specs.Written.{Appends, AppendsWith, WritesBytes, WritesWith, bodies, refusal, unpacked};
 
 use crate::encoding::chunks::chunks_len;
@@ -15,7 +16,7 @@ use crate::encoding::order::test_more;
 use crate::encoding::{append_set, append_zeros, encode_to};
 use crate::id_set::IdSet;
 use crate::reserved;
-use crate::set_error::SetError;
+use bitpack_slices::SetError;
 
 /// Appends the set of the ids of a set and of more ids after them. It unpacks ids into `room`, whose items are lost. If both sets are in chunks,
 /// only the ids of the last chunk are unpacked, and the other bodies are copied.
@@ -29,6 +30,7 @@ pub fn append(
     room: &mut Vec<u32>,
     out: &mut Vec<u8>,
 ) -> Result<(), SetError>
+    // claim: sets/15
     ensures { AppendsWith (vec_capacity room.old) (unpacked (ids set.now) more.now) (ids set.now ++ more.now) result out.old out.new }
 {
     test_after(set, more)?;
@@ -50,6 +52,8 @@ pub fn append_to(
     room: &mut [u32],
     out: &mut [u8],
 ) -> Result<usize, SetError>
+    // claim: sets/15 encodes a set's ids with more after them, as `sets/7-9`; needs work space for these, and for the ids of the last
+    //   chunk, or for all if not both sets are in chunks
     ensures { WritesWith (length room.old) (unpacked (ids set.now) more.now) (ids set.now ++ more.now) result out.old out.new }
 {
     test_after(set, more)?;

@@ -6,24 +6,15 @@
 //! 6 | n, a varint | n ids of four bytes, increasing
 //! ```
 
-ghost use Rattle.std.specs.Prelude.{◌≡◌, ◌≢◌, ◌+◌, ◌*◌, ◌/◌, ◌^◌, ◌<◌, ◌≤◌, length, slice_index};
-ghost use Rattle.bitpack_sets.specs.Errors.{Finds};
+ghost use Rattle.std.specs.Prelude.{◌≡◌, ◌≢◌, ◌+◌, ◌*◌, ◌/◌, ◌^◌, ◌<◌, ◌≤◌, length};
+ghost use Rattle.bitpack_slices.specs.Errors.{Finds};
 ghost use Rattle.bitpack_sets.specs.Faults.{ids_fault};
-ghost use Rattle.bitpack_sets.specs.Reads.{has, rank};
-ghost use Rattle.bitpack_sets.specs.Sets.{IsRising, parts};
-ghost use Rattle.bitpack_sets.specs.Slices.{quads_of};
+ghost use Rattle.bitpack_slices.specs.Reads.{has, rank};
+ghost use Rattle.bitpack_slices.specs.Bodies.{IsRising, parts};
+ghost use Rattle.bitpack_slices.specs.Slices.{quads_of};
 
-use crate::set_error::SetError;
-
-/// The id at a position.
-#[inline(always)]
-pub(crate) fn id_at(rest: &[u8], position: usize) -> u32
-    requires { 4 * position + 4 ≤ length rest.now }
-    ensures { result ≡ slice_index (quads_of rest.now) position }
-{
-    let bytes = &rest[4 * position..4 * position + 4];
-    u32::from_le_bytes([bytes[0], bytes[1], bytes[2], bytes[3]])
-}
+use bitpack_slices::SetError;
+use bitpack_slices::integers::id_at;
 
 /// Writes all ids of an array.
 pub(crate) fn unpack_array(rest: &[u8], out: &mut [u32])
@@ -92,7 +83,7 @@ pub(crate) fn test_array(count: usize, rest: &[u8]) -> Result<(), SetError>
 
 /// The first position whose id is not above the one before.
 fn first_fall(ids: &[u8]) -> Option<usize>
-    ensures { result ≡ Rattle.bitpack_sets.specs.Slices.first_fall 0 (quads_of ids.now) }
+    ensures { result ≡ Rattle.bitpack_slices.specs.Slices.first_fall 0 (quads_of ids.now) }
 {
     for position in 1..ids.len() / 4 {
         if id_at(ids, position) <= id_at(ids, position - 1) {

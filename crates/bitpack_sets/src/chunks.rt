@@ -4,24 +4,25 @@
 ghost use Rattle.std.specs.Prelude.{◌≡◌, ◌≢◌, ◌^◌, ◌≤◌};
 ghost use Rattle.std.proofs.Props.{props};
 ghost use Rattle.bitpacking.specs.Bits.{AreBytes};
-ghost use Rattle.bitpack_sets.specs.Props.{rising_prop};
-ghost use Rattle.bitpack_sets.specs.Sets.{IsRising};
-ghost use Rattle.bitpack_sets.specs.Slices.{quads_of};
+ghost use Rattle.bitpack_slices.specs.Props.{rising_prop};
+ghost use Rattle.bitpack_slices.specs.Bodies.{IsRising};
+ghost use Rattle.bitpack_slices.specs.Slices.{quads_of};
 ghost use Rattle.bitpack_sets.specs.Sound.{IsRest};
 
-use crate::array::{id_at, in_array};
-use crate::bitmap::loading::{block_highs, clear, integer_highs, load_blocks, load_integers};
-use crate::body::Body;
-use crate::directory::{count_before, key_at, sum_at};
-use crate::listed::Listed;
-use crate::searching::{body_of, in_chunk};
+use crate::array::in_array;
+use crate::directory::{Directory, key_at};
+use bitpack_slices::bitmap::loading::{clear, integer_highs, load_integers};
+use bitpack_slices::body::Body;
+use bitpack_slices::chunk::Lows;
+use bitpack_slices::integers::id_at;
+use bitpack_slices::listed::Listed;
 
 /// The key after all keys.
-pub(crate) const NO_KEY: u32 = 65536;
+pub const NO_KEY: u32 = 65536;
 
 /// The chunks of a set. A position is the index of a chunk, or the index of an id in an array.
 #[derive(Clone, Copy)]
-pub(crate) struct Chunks<'a> {
+pub struct Chunks<'a> {
     // How many chunks a set in chunks has, 0 of an array.
     count: usize,
     // What is after the counts of a set in chunks, or the ids of an array.
@@ -29,27 +30,32 @@ pub(crate) struct Chunks<'a> {
     // How many ids a set in chunks has.
     ids: usize,
     ghost few: { count ≤ 65536 },
+    ghost most: { ids ≤ 2 ^ 28 },
     ghost are_bytes: { AreBytes rest.now },
     ghost sound: { count ≢ 0 → IsRest ids count rest.now } by { Prim.hlevel (props, rising_prop) },
     ghost rising: { count ≡ 0 → IsRising 0 (2 ^ 32) (quads_of rest.now) } by { Prim.hlevel (props, rising_prop) },
 }
 
 impl<'a> Chunks<'a> {
-    ghost use Rattle.std.specs.Prelude.{ℕ, ◌+◌, ◌*◌, ◌/◌, ◌%◌, ◌<◌, ◌==◌, IfSome, false, length, slice_index};
-    ghost use Rattle.bitpack_sets.specs.Bitmaps.{Represents, has_bit, has_high};
+    ghost use Rattle.std.specs.Prelude.{ℕ, ◌+◌, ◌*◌, ◌/◌, ◌%◌, ◌<◌, IfSome, false, length, slice_index};
+    ghost use Rattle.bitpack_slices.specs.Bitmaps.{Represents, has_bit, has_high};
     ghost use Rattle.bitpack_sets.specs.Chunks.{AreBetween, first_key, ids_from, lows_between, positions};
-    ghost use Rattle.bitpack_sets.specs.Directory.{chunk_ids, count_at};
-    ghost use Rattle.bitpack_sets.specs.Lists.{OfKey, body_lows, listed_ids};
+    ghost use Rattle.bitpack_sets.specs.Directory.{body_at, body_numbers_of, count_at};
+    ghost use Rattle.bitpack_sets.specs.Forms.{directory_ids};
+    ghost use Rattle.bitpack_slices.specs.Lows.{AreLows, lows};
+    ghost use Rattle.bitpack_slices.specs.Lists.{OfKey, body_lows, listed_ids};
     ghost use Rattle.bitpack_sets.specs.Pairs.{IsSpan};
-    ghost use Rattle.bitpack_sets.specs.Reads.{has};
+    ghost use Rattle.bitpack_slices.specs.Reads.{has};
 
-    /// The chunks of a set of `ids` ids in chunks.
-    pub(crate) fn new(count: usize, rest: &'a [u8], ids: usize) -> Chunks<'a>
-        requires few { count ≤ 65536 }
-        requires rest { IsRest ids count rest.now }
-        ensures { ids_from result 0 ≡ chunk_ids count rest.now }
+    /// The chunks of a set in chunks.
+    pub(crate) fn new(directory: Directory<'a>) -> Chunks<'a>
+        ensures { ids_from result 0 ≡ directory_ids directory.entry }
     {
-        Chunks { count, rest, ids }
+        Chunks {
+            count: directory.chunks,
+            rest: directory.rest,
+            ids: directory.count,
+        }
     }
 
     /// The chunks of ids of four bytes.
@@ -62,6 +68,22 @@ impl<'a> Chunks<'a> {
             rest,
             ids: 0,
         }
+    }
+
+    /// The numbers of a chunk of a set in chunks.
+    #[inline(always)]
+    fn lows(&self, chunk: usize) -> Lows<'a>
+        requires chunks { self.now.count ≢ 0 }
+        requires within { chunk < self.now.count }
+        ensures are { AreLows result }
+        ensures lows { lows result ≡ body_numbers_of (count_at self.now.count self.now.rest.now chunk) (body_at self.now.count self.now.rest.now chunk) }
+    {
+        let directory = Directory {
+            count: self.ids,
+            chunks: self.count,
+            rest: self.rest,
+        };
+        directory.lows(chunk)
     }
 
     /// The position after the last.
@@ -78,7 +100,7 @@ impl<'a> Chunks<'a> {
 
     /// The key of the first id from a position on, `NO_KEY` if there is none.
     #[inline(always)]
-    pub(crate) fn key(&self, position: usize) -> u32
+    pub fn key(&self, position: usize) -> u32
         ensures first { result ≡ first_key (ids_from self.now position) }
         ensures most { result ≤ NO_KEY }
         ensures none { (x : ℕ) → x / 65536 < result → has x (ids_from self.now position) ≡ false }
@@ -93,7 +115,7 @@ impl<'a> Chunks<'a> {
     }
 
     /// The first position from one on whose id has this key or a higher one, by halves.
-    pub(crate) fn seek(&self, position: usize, key: u32) -> usize
+    pub fn seek(&self, position: usize, key: u32) -> usize
         requires within { position ≤ positions self.now }
         requires key { key ≤ NO_KEY }
         ensures within { result ≤ positions self.now }
@@ -118,7 +140,7 @@ impl<'a> Chunks<'a> {
     }
 
     /// The position after the ids of a key that begin at a position: this position, if its id has another key.
-    pub(crate) fn end(&self, position: usize, key: u32) -> usize
+    pub fn end(&self, position: usize, key: u32) -> usize
         requires within { position ≤ positions self.now }
         requires key { key < NO_KEY }
         requires least { key ≤ first_key (ids_from self.now position) }
@@ -151,17 +173,11 @@ impl<'a> Chunks<'a> {
         if self.count == 0 {
             return in_array(&self.rest[4 * position..4 * end], id);
         }
-        in_chunk(
-            self.ids,
-            self.count,
-            self.rest,
-            position,
-            (id % 65536) as u16,
-        )
+        self.lows(position).contains((id % 65536) as u16)
     }
 
     /// The high bytes of the low 16 bits of the ids between two positions, which share a key.
-    pub(crate) fn highs(&self, position: usize, end: usize) -> [u64; 4]
+    pub fn highs(&self, position: usize, end: usize) -> [u64; 4]
         requires within { (position ≤ end) × (end ≤ positions self.now) }
         requires one { self.now.count ≢ 0 → end ≤ position + 1 }
         ensures { (h : ℕ) → h < 256 → has_bit result h ≡ has_high h (lows_between self.now position end) }
@@ -172,15 +188,11 @@ impl<'a> Chunks<'a> {
         if self.count == 0 {
             return integer_highs(4, &self.rest[4 * position..4 * end]);
         }
-        let body = body_of(self.ids, self.count, self.rest, position);
-        if self.is_numbers(position, body) {
-            return integer_highs(2, body);
-        }
-        block_highs(body)
+        self.lows(position).highs()
     }
 
     /// Loads the low 16 bits of the ids between two positions, which share a key, if they have these high bytes.
-    pub(crate) fn load(&self, position: usize, end: usize, highs: &[u32], words: &mut [u64; 1024])
+    pub fn load(&self, position: usize, end: usize, highs: &[u32], words: &mut [u64; 1024])
         requires within { (position ≤ end) × (end ≤ positions self.now) }
         requires one { self.now.count ≢ 0 → end ≤ position + 1 }
         requires highs { IsRising 0 256 highs.now }
@@ -191,13 +203,13 @@ impl<'a> Chunks<'a> {
         } else if self.count == 0 {
             load_integers(4, &self.rest[4 * position..4 * end], highs, words);
         } else {
-            self.load_body(position, highs, words);
+            self.lows(position).load(highs, words);
         }
     }
 
     /// The ids between two positions, which have this key.
     #[inline(always)]
-    pub(crate) fn body(&self, key: u32, position: usize, end: usize) -> Body<'a>
+    pub fn body(&self, key: u32, position: usize, end: usize) -> Body<'a>
         requires key { key < NO_KEY }
         requires span { IsSpan self.now key position end }
         ensures key { OfKey key result }
@@ -209,16 +221,14 @@ impl<'a> Chunks<'a> {
         if self.count == 0 {
             return Body::Ids(Listed::ids(&self.rest[4 * position..4 * end]));
         }
-        let body = body_of(self.ids, self.count, self.rest, position);
-        if self.is_numbers(position, body) {
-            Body::Ids(Listed::numbers(key * 65536, body))
-        } else {
-            Body::Blocks(body)
+        match self.lows(position) {
+            Lows::Numbers(body) => Body::Ids(Listed::numbers(key * 65536, body)),
+            Lows::Blocks(body) => Body::Blocks(body),
         }
     }
 
     /// All ids, if the set is not in chunks.
-    pub(crate) fn listed(&self) -> Option<Listed<'a>>
+    pub fn listed(&self) -> Option<Listed<'a>>
         ensures { IfSome result (λ list. listed_ids list ≡ ids_from self.now 0) }
     {
         if self.count == 0 {
@@ -226,31 +236,5 @@ impl<'a> Chunks<'a> {
         } else {
             None
         }
-    }
-
-    // Loads the body of a chunk.
-    fn load_body(&self, chunk: usize, highs: &[u32], words: &mut [u64; 1024])
-        requires chunks { self.now.count ≢ 0 }
-        requires within { chunk < self.now.count }
-        requires highs { IsRising 0 256 highs.now }
-        ensures { Represents highs.now words.new (lows_between self.now chunk (chunk + 1)) }
-    {
-        let body = body_of(self.ids, self.count, self.rest, chunk);
-        if self.is_numbers(chunk, body) {
-            load_integers(2, body, highs, words);
-        } else {
-            load_blocks(body, highs, words);
-        }
-    }
-
-    // Whether the body of a chunk is numbers.
-    #[inline(always)]
-    fn is_numbers(&self, chunk: usize, body: &[u8]) -> bool
-        requires chunks { self.now.count ≢ 0 }
-        requires within { chunk < self.now.count }
-        ensures { result ≡ (length body.now == 2 * count_at self.now.count self.now.rest.now chunk) }
-    {
-        let own = sum_at(self.count, self.rest, chunk) - count_before(self.count, self.rest, chunk);
-        body.len() == 2 * own as usize
     }
 }

@@ -7,14 +7,31 @@
 //! ```
 
 ghost use Rattle.std.specs.Prelude.{◌≡◌, ◌+◌, ◌*◌, ◌/◌, ◌%◌, ◌^◌, ◌<◌, ◌≤◌, ◌&&◌, ◌||◌, ◌==◌, not, nat_le, nat_lt, drop, length};
+ghost use Rattle.std.proofs.Props.{props};
+ghost use Rattle.bitpacking.specs.Bits.{AreBytes};
 ghost use Rattle.bitpack_sets.specs.Directory.{before};
-ghost use Rattle.bitpack_sets.specs.Errors.{Finds};
+ghost use Rattle.bitpack_slices.specs.Errors.{Finds};
+ghost use Rattle.bitpack_slices.specs.Props.{rising_prop};
 ghost use Rattle.bitpack_sets.specs.Faults.{entry_fault, first_of, loose_sizes_fault, sizes_fault};
-ghost use Rattle.bitpack_sets.specs.Sound.{HasDirectory};
+ghost use Rattle.bitpack_sets.specs.Sound.{HasDirectory, IsRest};
 ghost use Rattle.bitpack_sets.specs.Varints as varints;
 
-use crate::set_error::SetError;
 use bitpack_groups::{byte_count, read_integer};
+use bitpack_slices::SetError;
+
+/// The directory of a set in chunks, with the bodies after it. They were tested.
+#[derive(Clone, Copy)]
+pub struct Directory<'a> {
+    // How many ids and how many chunks there are.
+    pub(crate) count: usize,
+    pub(crate) chunks: usize,
+    // What is after these counts.
+    pub(crate) rest: &'a [u8],
+    ghost few: { chunks ≤ 65536 },
+    ghost most: { count ≤ 2 ^ 28 },
+    ghost are_bytes: { AreBytes rest.now },
+    ghost sound: { IsRest count chunks rest.now } by { Prim.hlevel (props, rising_prop) },
+}
 
 /// The key of a chunk.
 #[inline(always)]

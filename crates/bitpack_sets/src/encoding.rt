@@ -9,16 +9,15 @@ mod bodies;
 pub(crate) mod chunks;
 pub(crate) mod copying;
 mod few;
-pub(crate) mod integers;
 mod measuring;
-pub(crate) mod order;
+pub mod order;
 mod runs;
 
 use crate::encoding::chunks::{array_len, chunks_len, write_array, write_chunks};
 use crate::encoding::few::{MOST_FEW, few_len, write_few};
 use crate::encoding::measuring::{count_chunks, measure_bodies};
 use crate::encoding::order::test_ids;
-use crate::set_error::SetError;
+use bitpack_slices::SetError;
 
 /// What is known of an encoded set before it is written: how many bytes it has, and from 128 ids on how many chunks, and how many bytes
 /// their bodies have.
@@ -56,6 +55,8 @@ pub fn encode_to(ids: &[u32], bytes: &mut [u8]) -> Result<usize, SetError>
 }
 
 /// Appends the set of these ids. They have to increase, and are at most 268,435,456. The vector grows at most once.
+// claim: sets/7-9 measures, writes, appends the encoding of at most 268,435,456 ids; fails with the first fault of the ids, `Short` or
+//   `Memory`, and then changes nothing
 pub fn encode(ids: &[u32], out: &mut Vec<u8>) -> Result<(), SetError>
     ensures { AppendsWith 0 0 ids.now result out.old out.new }
 {
@@ -64,7 +65,7 @@ pub fn encode(ids: &[u32], out: &mut Vec<u8>) -> Result<(), SetError>
 }
 
 /// Appends the encoding of a set. The vector grows at most once.
-pub(crate) fn append_set(ids: &[u32], out: &mut Vec<u8>) -> Result<(), SetError>
+pub fn append_set(ids: &[u32], out: &mut Vec<u8>) -> Result<(), SetError>
     requires { IsSet ids.now }
     ensures { Appends (encoding ids.now) result out.old out.new }
 {

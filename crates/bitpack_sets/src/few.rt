@@ -7,19 +7,20 @@
 //! ```
 
 ghost use Rattle.std.specs.Prelude.{◌≡◌, ℕ, ◌+◌, ◌*◌, ◌^◌, ◌<◌, ◌≤◌, IfOk, OnOk, length, None, Option, drop, slice_index, take};
-ghost use Rattle.bitpack_sets.specs.Reads.{few_ids, has, rank};
-ghost use Rattle.bitpack_sets.specs.Errors.{Finds};
+ghost use Rattle.bitpack_slices.specs.Reads.{has, rank};
+ghost use Rattle.bitpack_sets.specs.Reads.{few_ids};
+ghost use Rattle.bitpack_slices.specs.Errors.{Finds};
 ghost use Rattle.bitpack_sets.specs.Faults.{ids_from, short_fault, some_fault};
-ghost use Rattle.bitpack_sets.specs.Slices.{quads_of};
+ghost use Rattle.bitpack_slices.specs.Slices.{quads_of};
 ghost use Rattle.bitpack_sets.specs.Varints.{after_groups, groups_codes, groups_fault, groups_of, of};
 
-use crate::encoding::integers::write_integers;
-use crate::set_error::SetError;
 use crate::varints::{open_group, open_number};
 use bitpack_groups::{LONGEST_GROUP, next_len, unpack_groups, unpack_number};
+use bitpack_slices::SetError;
+use bitpack_slices::integers::write_integers;
 
 /// The most ids of such a set.
-pub(crate) const MOST_FEW: usize = 127;
+pub const MOST_FEW: usize = 127;
 
 /// Tests what is after byte 0 of the encoding of `count` ids.
 pub(crate) fn test_few(count: usize, bytes: &[u8]) -> Result<(), SetError>
@@ -48,80 +49,82 @@ fn test_some(more: usize, bytes: &[u8]) -> Result<(), SetError>
     test_end(rest)
 }
 
-/// Writes the ids of such a set to a slice of as many. The bytes after byte 0 of its encoding are given, and have no fault.
-pub(crate) fn unpack_few(bytes: &[u8], out: &mut [u32])
-    requires few { length out.old ≤ MOST_FEW }
-    requires sound { short_fault (length out.old) bytes.now ≡ None }
-    ensures { out.new ≡ few_ids (length out.old) bytes.now }
-{
-    if out.is_empty() {
-        return;
+/// The bytes after byte 0 of a set of fewer than 128 ids. They were tested.
+#[derive(Clone, Copy)]
+pub struct Few<'a> {
+    pub(crate) count: usize,
+    pub(crate) bytes: &'a [u8],
+    ghost few: { count ≤ 127 },
+    ghost sound: { short_fault count bytes.now ≡ None },
+}
+
+impl<'a> Few<'a> {
+    ghost use Rattle.bitpack_sets.specs.Forms.{ids_of_few};
+
+    /// Writes all ids.
+    pub(crate) fn unpack(self, out: &mut [u32])
+        requires room { length out.old ≡ self.count }
+        ensures { out.new ≡ ids_of_few self.entry }
+    {
+        if out.is_empty() {
+            return;
+        }
+        let mut codes = [0; MOST_FEW];
+        unpack_some(self.bytes, &mut codes[..out.len() - 1], out);
     }
-    let mut codes = [0; MOST_FEW];
-    unpack_some(bytes, &mut codes[..out.len() - 1], out);
-}
 
-/// Writes the ids of such a set, four bytes for each.
-pub(crate) fn unpack_few_bytes(count: usize, bytes: &[u8], out: &mut [u8])
-    requires few { count ≤ MOST_FEW }
-    requires sound { short_fault count bytes.now ≡ None }
-    requires room { length out.old ≡ 4 * count }
-    ensures { quads_of out.new ≡ few_ids count bytes.now }
-{
-    let mut ids = [0; MOST_FEW];
-    let ids = &mut ids[..count];
-    unpack_few(bytes, ids);
-    write_integers(4, ids, out);
-}
+    /// Writes all ids, four bytes for each.
+    pub(crate) fn unpack_bytes(self, out: &mut [u8])
+        requires room { length out.old ≡ 4 * self.count }
+        ensures { quads_of out.new ≡ ids_of_few self.entry }
+    {
+        let mut ids = [0; MOST_FEW];
+        let ids = &mut ids[..self.count];
+        self.unpack(ids);
+        write_integers(4, ids, out);
+    }
 
-/// Writes the ids of such a set from a position on, as many as there is room for.
-pub(crate) fn unpack_few_from(count: usize, bytes: &[u8], from: usize, out: &mut [u32])
-    requires few { count ≤ MOST_FEW }
-    requires sound { short_fault count bytes.now ≡ None }
-    requires within { from + length out.old ≤ count }
-    ensures { out.new ≡ take (length out.old) (drop from (few_ids count bytes.now)) }
-{
-    let mut ids = [0; MOST_FEW];
-    let ids = &mut ids[..count];
-    unpack_few(bytes, ids);
-    out.copy_from_slice(&ids[from..from + out.len()]);
-}
+    /// Writes the ids from a position on, as many as there is room for.
+    pub(crate) fn unpack_from(self, from: usize, out: &mut [u32])
+        requires within { from + length out.old ≤ self.count }
+        ensures { out.new ≡ take (length out.old) (drop from (ids_of_few self.entry)) }
+    {
+        let mut ids = [0; MOST_FEW];
+        let ids = &mut ids[..self.count];
+        self.unpack(ids);
+        out.copy_from_slice(&ids[from..from + out.len()]);
+    }
 
-/// Whether an id is in such a set.
-pub(crate) fn in_few(count: usize, bytes: &[u8], id: u32) -> bool
-    requires few { count ≤ MOST_FEW }
-    requires sound { short_fault count bytes.now ≡ None }
-    ensures { result ≡ has id (few_ids count bytes.now) }
-{
-    let mut ids = [0; MOST_FEW];
-    let ids = &mut ids[..count];
-    unpack_few(bytes, ids);
-    is_member(ids, id)
-}
+    /// Whether the set has this id.
+    pub(crate) fn contains(self, id: u32) -> bool
+        ensures { result ≡ has id (ids_of_few self.entry) }
+    {
+        let mut ids = [0; MOST_FEW];
+        let ids = &mut ids[..self.count];
+        self.unpack(ids);
+        is_member(ids, id)
+    }
 
-/// How many ids of such a set are below `id`.
-pub(crate) fn rank_in_few(count: usize, bytes: &[u8], id: u32) -> usize
-    requires few { count ≤ MOST_FEW }
-    requires sound { short_fault count bytes.now ≡ None }
-    ensures { result ≡ rank id (few_ids count bytes.now) }
-{
-    let mut ids = [0; MOST_FEW];
-    let ids = &mut ids[..count];
-    unpack_few(bytes, ids);
-    count_below(ids, id)
-}
+    /// How many ids are below `id`.
+    pub(crate) fn rank(self, id: u32) -> usize
+        ensures { result ≡ rank id (ids_of_few self.entry) }
+    {
+        let mut ids = [0; MOST_FEW];
+        let ids = &mut ids[..self.count];
+        self.unpack(ids);
+        count_below(ids, id)
+    }
 
-/// The id at a position of such a set.
-pub(crate) fn select_in_few(count: usize, bytes: &[u8], position: usize) -> u32
-    requires few { count ≤ MOST_FEW }
-    requires sound { short_fault count bytes.now ≡ None }
-    requires within { position < count }
-    ensures { result ≡ slice_index (few_ids count bytes.now) position }
-{
-    let mut ids = [0; MOST_FEW];
-    let ids = &mut ids[..count];
-    unpack_few(bytes, ids);
-    ids[position]
+    /// The id at a position.
+    pub(crate) fn select(self, position: usize) -> u32
+        requires within { position < self.count }
+        ensures { result ≡ slice_index (ids_of_few self.entry) position }
+    {
+        let mut ids = [0; MOST_FEW];
+        let ids = &mut ids[..self.count];
+        self.unpack(ids);
+        ids[position]
+    }
 }
 
 /// Whether an id is among some.

@@ -3,16 +3,16 @@
 ghost use Rattle.std.specs.Prelude.{◌≡◌, ℕ, ◌/◌, ◌<◌, length};
 ghost use Rattle.std.specs.List.{range_with_len};
 ghost use Rattle.bitpack_sets.specs.Chunks.{AreBetween, Knows, ids_from};
-ghost use Rattle.bitpack_sets.specs.Reads.{has};
+ghost use Rattle.bitpack_slices.specs.Reads.{has};
 
-use crate::bitmap::single_bits::test_bit;
-use crate::blocks::Blocks;
 use crate::chunks::Chunks;
-use crate::listed::filtering::is_member;
+use bitpack_slices::bitmap::single_bits::test_bit;
+use bitpack_slices::blocks::Blocks;
+use bitpack_slices::listed::filtering::is_member;
 
 /// The ids of a key.
 #[derive(Clone, Copy)]
-pub(crate) enum Own<'a> {
+pub enum Own<'a> {
     /// The ids between two positions.
     Between(usize, usize),
     /// The ids of a body whose slices were found.
@@ -24,7 +24,7 @@ pub(crate) enum Own<'a> {
 impl<'a> Own<'a> {
     /// Whether the set has an id of the key.
     #[inline(always)]
-    pub(crate) fn has(self, set: &Chunks, id: u32) -> bool
+    pub fn has(self, set: &Chunks, id: u32) -> bool
         requires { Knows set.now (id / 65536) self }
         ensures { result ≡ has id (ids_from set.now 0) }
     {
@@ -38,7 +38,7 @@ impl<'a> Own<'a> {
 }
 
 /// Between which positions the ids of a key are.
-pub(crate) fn span(set: &Chunks, key: u32) -> (usize, usize)
+pub fn span(set: &Chunks, key: u32) -> (usize, usize)
     requires { key < 65536 }
     ensures { AreBetween set.now key result.0 result.1 }
 {
@@ -47,7 +47,7 @@ pub(crate) fn span(set: &Chunks, key: u32) -> (usize, usize)
 }
 
 /// Loads the bitmap of the ids of a key.
-pub(crate) fn load<'a>(set: &Chunks, key: u32, words: &'a mut [u64; 1024]) -> Own<'a>
+pub fn load<'a>(set: &Chunks, key: u32, words: &'a mut [u64; 1024]) -> Own<'a>
     requires { key < 65536 }
     ensures { Knows set.now key result }
 {
@@ -57,7 +57,7 @@ pub(crate) fn load<'a>(set: &Chunks, key: u32, words: &'a mut [u64; 1024]) -> Ow
 }
 
 /// Whether at least `count` ids after an index have its key, if they increase. Only the time depends on it.
-pub(crate) fn many_from(ids: &[u32], index: usize, count: usize) -> bool
+pub fn many_from(ids: &[u32], index: usize, count: usize) -> bool
     requires { index < length ids.now }
 {
     let left = &ids[index..];

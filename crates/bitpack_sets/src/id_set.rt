@@ -6,30 +6,27 @@ ghost use Rattle.std.specs.Prelude.{◌≡◌, ◌≤◌};
 ghost use Rattle.bitpacking.specs.Bits.{AreBytes};
 ghost use Rattle.bitpack_sets.specs.Stated.{States};
 
-use crate::array::{id_at, in_array, rank_in_array, unpack_array};
+use crate::array::{in_array, rank_in_array, unpack_array};
 use crate::chunks::Chunks;
-use crate::decoding::{unpack_chunks, unpack_chunks_from};
-use crate::encoding::copying::Front;
-use crate::few::{
-    MOST_FEW, in_few, rank_in_few, select_in_few, unpack_few, unpack_few_bytes, unpack_few_from,
-};
+use crate::few::MOST_FEW;
+use crate::form::Form;
 use crate::ids::Ids;
 use crate::opening::{Parts, read_parts, test_encoding};
 use crate::reserved::append_zeros;
-use crate::searching::{in_chunks, rank_in_chunks, select_in_chunks};
-use crate::set_error::SetError;
+use bitpack_slices::SetError;
+use bitpack_slices::integers::id_at;
 
 /// The most bytes that the ids of a set of few take as an array.
-pub(crate) const ROOM: usize = 4 * MOST_FEW;
+pub const ROOM: usize = 4 * MOST_FEW;
 
 /// A set of ids. Its bytes were tested when it was opened: reading it tests nothing again and cannot fail.
 #[derive(Clone, Copy)]
 pub struct IdSet<'a> {
-    bytes: &'a [u8],
-    count: usize,
-    chunks: usize,
+    pub(crate) bytes: &'a [u8],
+    pub(crate) count: usize,
+    pub(crate) chunks: usize,
     // What is after the counts.
-    rest: &'a [u8],
+    pub(crate) rest: &'a [u8],
     ghost are_bytes: { AreBytes bytes.now },
     ghost states: { States bytes.now count chunks rest.now },
 }
@@ -37,18 +34,17 @@ pub struct IdSet<'a> {
 impl<'a> IdSet<'a> {
     ghost use Rattle.std.specs.Prelude.{◌↔◌, ◌+◌, ◌<◌, ◌++◌, IsTrue, [], drop, length, take, vec_capacity, vec_len, IfErr, IfOk, None, OnErr, OnOk, ◌-◌, min, IfSome, IsNone, MatchOption, false, Some, slice_get, slice_index};
     ghost use Rattle.bitpack_sets.specs.Chunks.{ids_from};
-    ghost use Rattle.bitpack_sets.specs.Errors.{Finds};
+    ghost use Rattle.bitpack_slices.specs.Errors.{Finds};
     ghost use Rattle.bitpack_sets.specs.Faults.{fault};
-    ghost use Rattle.bitpack_sets.specs.Fronts.{IsFront, front_ids};
     ghost use Rattle.bitpack_sets.specs.Opened.{encoding_of, ids};
-    ghost use Rattle.bitpack_sets.specs.Reads.{has, rank};
+    ghost use Rattle.bitpack_slices.specs.Reads.{has, rank};
     ghost use Rattle.bitpack_sets.specs.Rooms.{StoresFew};
     ghost use Rattle.bitpack_sets.specs.Sets.{IsSet, encoding};
-    ghost use Rattle.bitpack_sets.specs.Written.{is_in_chunks};
 
     /// Opens an encoded set. Tests all bytes, accepts any, and allocates nothing.
     pub fn open(bytes: &'a [u8]) -> Result<IdSet<'a>, SetError>
         // Bytes with a fault are refused for the first, and bytes without one are opened.
+        // claim: sets/1 opens exactly a set's bytes, as that set; names others' first fault
         ensures fault { Finds result (fault bytes.now) }
         ensures bytes { IfOk result (λ set. encoding_of set ≡ bytes.now) }
         // The bytes are the encoding of these ids.
@@ -67,6 +63,7 @@ impl<'a> IdSet<'a> {
     /// The set whose bytes were opened before: they are not tested again. It is for a caller who stores only the bytes of sets that were
     /// opened.
     pub fn of_tested(bytes: &'a [u8]) -> IdSet<'a>
+        // claim: sets/11 `of_tested` and `from_parts` open bytes that are required to be valid, without a test
         requires sound { fault bytes.now ≡ None }
         ensures bytes { encoding_of result ≡ bytes.now }
         ensures set { IsSet (ids result) }
@@ -120,28 +117,22 @@ impl<'a> IdSet<'a> {
     pub fn contains(&self, id: u32) -> bool
         ensures { result ≡ has id (ids self.now) }
     {
-        let form = self.bytes[0];
-        if form == 5 {
-            return in_chunks(self.count, self.chunks, self.rest, id);
+        match self.form() {
+            Form::Few(few) => few.contains(id),
+            Form::Array(ids) => in_array(ids, id),
+            Form::Chunks(directory) => directory.contains(id),
         }
-        if form == 6 {
-            return in_array(self.rest, id);
-        }
-        in_few(self.count, self.rest, id)
     }
 
     /// How many ids are below `id`. If the set has `id`, this is its position.
     pub fn rank(&self, id: u32) -> usize
         ensures { result ≡ rank id (ids self.now) }
     {
-        let form = self.bytes[0];
-        if form == 5 {
-            return rank_in_chunks(self.count, self.chunks, self.rest, id);
+        match self.form() {
+            Form::Few(few) => few.rank(id),
+            Form::Array(ids) => rank_in_array(ids, id),
+            Form::Chunks(directory) => directory.rank(id),
         }
-        if form == 6 {
-            return rank_in_array(self.rest, id);
-        }
-        rank_in_few(self.count, self.rest, id)
     }
 
     /// The id at a position, counted from 0. It is `None` exactly if `position` is not below the number of ids.
@@ -156,6 +147,7 @@ impl<'a> IdSet<'a> {
 
     /// The first id that is at least `target`, with its position. It is `None` exactly if all ids are below `target`.
     pub fn seek(&self, target: u32) -> Option<(usize, u32)>
+        // claim: sets/2-3 `len`, `contains`, `rank` below an id, `select` by position, the first id from a number on
         ensures found { MatchOption result (rank target (ids self.now) ≡ length (ids self.now))
             (λ found. (found.0 ≡ rank target (ids self.now)) × (slice_get (ids self.now) found.0 ≡ Some found.1)) }
         ensures least { IfSome result (λ found. target ≤ found.1) }
@@ -168,6 +160,7 @@ impl<'a> IdSet<'a> {
     }
 
     /// An iterator over the ids, in increasing order.
+    // claim: sets/12 an iterator returns each id once, in increasing order
     pub fn iter(&self) -> Ids<'a>
         // All ids are left.
         ensures { drop result.next (ids result.set) ≡ ids self.now }
@@ -186,29 +179,15 @@ impl<'a> IdSet<'a> {
         self.at(self.count - 1)
     }
 
-    /// The chunks that are copied if ids follow. It is `None` if the set is not in chunks.
-    pub(crate) fn front(&self) -> Option<Front<'a>>
-        ensures front { IfSome result (λ front. IsFront (front_ids front) (ids self.now)) }
-        ensures none { IsNone result → is_in_chunks (ids self.now) ≡ false }
-    {
-        if self.bytes[0] != 5 {
-            return None;
-        }
-        Some(Front::new(self.count, self.chunks, self.rest))
-    }
-
     fn at(&self, position: usize) -> u32
         requires { position < length (ids self.now) }
         ensures { result ≡ slice_index (ids self.now) position }
     {
-        let form = self.bytes[0];
-        if form == 5 {
-            return select_in_chunks(self.count, self.chunks, self.rest, position);
+        match self.form() {
+            Form::Few(few) => few.select(position),
+            Form::Array(ids) => id_at(ids, position),
+            Form::Chunks(directory) => directory.select(position),
         }
-        if form == 6 {
-            return id_at(self.rest, position);
-        }
-        select_in_few(self.count, self.rest, position)
     }
 
     /// Appends all ids.
@@ -245,21 +224,12 @@ impl<'a> IdSet<'a> {
         count
     }
 
-    /// The chunks of the set. The room is for the ids of a set of few.
-    pub(crate) fn chunks<'b>(&'b self, room: &'b mut [u8; ROOM]) -> Chunks<'b>
-        ensures { ids_from result 0 ≡ ids self.now }
-    {
-        self.fill(room);
-        self.filled_chunks(room)
-    }
-
     /// Writes the ids of a set of few into its room. Other sets need none.
     pub(crate) fn fill(&self, room: &mut [u8; ROOM])
         ensures { StoresFew self.now room.new }
     {
-        let form = self.bytes[0];
-        if form != 5 && form != 6 {
-            unpack_few_bytes(self.count, self.rest, &mut room[..4 * self.count]);
+        if let Form::Few(few) = self.form() {
+            few.unpack_bytes(&mut room[..4 * few.count]);
         }
     }
 
@@ -268,14 +238,11 @@ impl<'a> IdSet<'a> {
         requires { StoresFew self.now room.now }
         ensures { ids_from result 0 ≡ ids self.now }
     {
-        let form = self.bytes[0];
-        if form == 5 {
-            return Chunks::new(self.chunks, self.rest, self.count);
+        match self.form() {
+            Form::Few(few) => Chunks::of_array(&room[..4 * few.count]),
+            Form::Array(ids) => Chunks::of_array(ids),
+            Form::Chunks(directory) => Chunks::new(directory),
         }
-        if form == 6 {
-            return Chunks::of_array(self.rest);
-        }
-        Chunks::of_array(&room[..4 * self.count])
     }
 
     /// Writes the ids from a position on at the start of the slice, as many as there are and it has room for, and returns how many it wrote.
@@ -284,6 +251,7 @@ impl<'a> IdSet<'a> {
     /// The rest of the slice is unchanged. Allocates nothing, and looks only into bodies that have such ids.
     pub fn copy_range(&self, from: usize, out: &mut [u32]) -> usize
         ensures len { result ≡ min (length out.old) (length (ids self.now) - from) }
+        // claim: sets/4 appends all ids (memory rule), or writes those from a position on
         ensures ids { take result out.new ≡ take result (drop from (ids self.now)) }
         ensures rest { drop result out.new ≡ drop result out.old }
     {
@@ -300,16 +268,11 @@ impl<'a> IdSet<'a> {
         requires within { from + length out.old ≤ length (ids self.now) }
         ensures { out.new ≡ take (length out.old) (drop from (ids self.now)) }
     {
-        let form = self.bytes[0];
-        if form == 5 {
-            unpack_chunks_from(self.count, self.chunks, self.rest, from, out);
-            return;
+        match self.form() {
+            Form::Few(few) => few.unpack_from(from, out),
+            Form::Array(ids) => unpack_array(&ids[4 * from..4 * (from + out.len())], out),
+            Form::Chunks(directory) => directory.unpack_from(from, out),
         }
-        if form == 6 {
-            unpack_array(&self.rest[4 * from..4 * (from + out.len())], out);
-            return;
-        }
-        unpack_few_from(self.count, self.rest, from, out);
     }
 
     // Unpacks each body once.
@@ -317,15 +280,10 @@ impl<'a> IdSet<'a> {
         requires room { length out.old ≡ length (ids self.now) }
         ensures { out.new ≡ ids self.now }
     {
-        let form = self.bytes[0];
-        if form == 5 {
-            unpack_chunks(self.count, self.chunks, self.rest, out);
-            return;
+        match self.form() {
+            Form::Few(few) => few.unpack(out),
+            Form::Array(ids) => unpack_array(ids, out),
+            Form::Chunks(directory) => directory.unpack(out),
         }
-        if form == 6 {
-            unpack_array(self.rest, out);
-            return;
-        }
-        unpack_few(self.rest, out);
     }
 }

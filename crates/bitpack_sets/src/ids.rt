@@ -5,7 +5,8 @@ ghost use Rattle.bitpack_sets.specs.Opened.{ids};
 
 use crate::id_set::IdSet;
 
-/// How many ids are unpacked at once.
+/// How many ids are unpacked at once. On a Xeon of model 85, it takes 1.3 to 1.6 times as long to add 20,000 ids or more with 64, 1.1 to 1.3
+/// times with 128, and 0.9 to 1.0 times with 1,024.
 const MOST_UNPACKED: usize = 256;
 
 /// An iterator over the ids of a set, in increasing order. It unpacks up to 256 at once, and so takes about 1 KB.

@@ -8,19 +8,23 @@
 //! chunks      5 | n | C | sizes | keys | ends | sums | bodies
 //! ```
 
-ghost use Rattle.std.specs.Prelude.{◌≡◌, ◌≤◌, ◌<◌, ◌^◌, ◌*◌, IfOk, None, drop, length};
-ghost use Rattle.bitpack_sets.specs.Errors.{Finds};
-ghost use Rattle.bitpack_sets.specs.Faults.{array_fault, chunk_count_fault, chunks_fault, count_fault, fault, in_chunks_fault};
+ghost use Rattle.std.specs.Prelude.{◌≡◌, ℕ, ◌≤◌, ◌<◌, ◌^◌, ◌*◌, IfOk, None, drop, length};
+ghost use Rattle.bitpack_sets.specs.Directory.{bodies_end};
+ghost use Rattle.bitpack_slices.specs.Errors.{Finds};
+ghost use Rattle.bitpack_sets.specs.Faults.{array_fault, body_fault_at, chunk_count_fault, chunks_fault, count_fault, fault, first_of, in_chunks_fault};
+ghost use Rattle.bitpack_sets.specs.Sound.{HasDirectory, IsEntry};
 ghost use Rattle.bitpack_sets.specs.Stated.{States};
 ghost use Rattle.bitpack_sets.specs.Varints.{number_end, number_value};
 
 use crate::array::test_array;
-use crate::chunk::testing::test_bodies;
-use crate::directory::{begin_at, bodies_start, test_entries, test_least, test_sizes};
+use crate::directory::{
+    begin_at, bodies_start, count_before, end_at, sum_at, test_entries, test_least, test_sizes,
+};
 use crate::few::test_few;
-use crate::set_error::SetError;
 use crate::varints::open_number;
 use bitpack_groups::unpack_number;
+use bitpack_slices::SetError;
+use bitpack_slices::chunk::testing::test_body;
 
 /// The most ids of a set.
 const MOST_IDS: usize = 1 << 28;
@@ -194,6 +198,25 @@ fn test_chunks(count: usize, chunks: usize, rest: &[u8]) -> Result<(), SetError>
     test_bodies(count, chunks, rest)?;
     if rest.len() > end {
         return Err(SetError::Trailing);
+    }
+    Ok(())
+}
+
+/// Tests the body of each chunk.
+pub(crate) fn test_bodies(count: usize, chunks: usize, rest: &[u8]) -> Result<(), SetError>
+    requires few { chunks ≤ 65536 }
+    requires directory { HasDirectory chunks rest.now }
+    requires entries { (m : ℕ) → m < chunks → IsEntry count chunks rest.now m }
+    requires room { bodies_end chunks rest.now ≤ length rest.now }
+    ensures { Finds result (first_of (body_fault_at chunks rest.now) chunks) }
+{
+    let start = bodies_start(chunks, rest);
+    for chunk in 0..chunks {
+        let position = count_before(chunks, rest, chunk) as usize;
+        let own = sum_at(chunks, rest, chunk) as usize - position;
+        let begin = begin_at(chunks, rest, chunk) as usize;
+        let end = end_at(chunks, rest, chunk) as usize;
+        test_body(chunk, position, own, &rest[start + begin..start + end])?;
     }
     Ok(())
 }

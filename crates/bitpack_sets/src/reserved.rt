@@ -3,7 +3,7 @@
 ghost use Rattle.std.specs.Prelude.{◌≡◌, ◌+◌, ◌≤◌, ◌++◌, replicate, vec_capacity, vec_len};
 
 /// Appends zeros. There is room for them.
-pub(crate) fn append_zeros(out: &mut Vec<u32>, count: usize)
+pub fn append_zeros(out: &mut Vec<u32>, count: usize)
     requires room { vec_len out.old + count ≤ vec_capacity out.old }
     ensures items { out.new.items ≡ out.old.items ++ replicate count 0 }
     ensures capacity { vec_capacity out.old ≤ vec_capacity out.new }

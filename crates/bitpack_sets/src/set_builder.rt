@@ -2,18 +2,19 @@
 //! FORMAT.md, "Id sets".
 
 ghost use Rattle.std.proofs.Props.{props};
-ghost use Rattle.bitpack_sets.specs.Props.{rising_prop};
+ghost use Rattle.bitpack_slices.specs.Props.{rising_prop};
 ghost use Rattle.bitpack_sets.specs.Sets.{IsSet};
 
 use crate::encoding::append_set;
 use crate::encoding::order::test_pushed;
-use crate::set_error::SetError;
+use bitpack_slices::SetError;
 use std::alloc::Global;
 
 /// The ids of a set that is not finished. A vector holds them, since an encoded set begins with their number.
 ///
 /// An id that is not above the one before it is refused when it is pushed, and the builder is unchanged.
 #[derive(Drop)]
+// claim: sets/13-14 a builder takes increasing ids, all of a call or none; encodes them
 pub struct SetBuilder {
     ids: Vec<u32>,
     pub ghost set: { IsSet ids.items } by { Prim.hlevel (props, rising_prop) },

@@ -3,11 +3,11 @@
 
 ghost use Rattle.std.specs.Prelude.{◌≡◌, ◌≤◌, IfOk, OnOk, length, slice_index, take};
 ghost use Rattle.bitpack_groups.specs.Groups.{group_codes, group_end, group_fault};
-ghost use Rattle.bitpack_sets.specs.Errors.{Finds};
+ghost use Rattle.bitpack_slices.specs.Errors.{Finds};
 ghost use Rattle.bitpack_sets.specs.Varints.{number_end, number_fault, number_value, of, set_error};
 
-use crate::set_error::SetError;
 use bitpack_groups::{GroupError, test_group, test_number};
+use bitpack_slices::SetError;
 
 /// A fault of numbers and groups as one of sets.
 fn as_set_error(error: GroupError) -> SetError

@@ -12,6 +12,7 @@ use std::alloc::Global;
 pub fn answer_lines(alloc: Global, input: &[u8], answers: &mut Vec<u8>) -> Result<(), RunError>
     ensures ok { OnOk result ((more : List ℕ) × AreAnswers (lines input.now) more
         × (answers.new.items ≡ answers.old.items ++ more)) }
+    // claim: uses/9-10 a failed run appended a beginning of the answers
     ensures err { IfErr result (λ e. e ≢ Read → (read : List ℕ) × IsBeginning read input.now
         × AppendsAnswersInPart (Some answers.old.items) (Some answers.new.items) (lines read)) }
     ensures memory { IsErrOf result Memory → (read : List ℕ) × IsBeginning read input.now

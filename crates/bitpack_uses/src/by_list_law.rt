@@ -58,6 +58,7 @@ pub fn encoding_by_upgrade<P: BitPacker>(
 }
 
 /// A version 2 encoding belongs to one list.
+// claim: uses/12 each law has a use
 pub fn no_two_lists()
     ensures { (kind other_kind : ListKind) (values others encoding : List ℕ) → AreBytes encoding
         → List2 4 kind values encoding → List2 4 other_kind others encoding

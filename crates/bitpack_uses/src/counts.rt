@@ -15,6 +15,7 @@ pub fn pack<P: Counted>(
 ) -> Steps
     requires { CanPack P.lanes width kind values.now bytes.old }
     ensures none { width ≡ 0 → result.loads ≡ 0 }
+    // claim: uses/3 what a block moves, in numbers
     ensures loads { 0 < width → result.loads ≡ 32 }
     ensures stores { result.stores ≡ width }
     ensures inside { result.inside ≡ 0 }

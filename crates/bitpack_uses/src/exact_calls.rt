@@ -47,6 +47,7 @@ pub fn pack_bits(bits: &[u32], bytes: &mut [u8]) -> usize
 }
 
 /// Unpacks a block of width 1.
+// claim: uses/4 each precondition is needed
 pub fn unpack() -> usize {
     BitPacker1x::new().decompress(&[0xff; 4], &mut [0; 32], 1)
 }

@@ -9,6 +9,7 @@ use bitpack::list2::{PackedList, Reads, intersect};
 use bitpacking::{BitPacker1x, BitPacker4x};
 
 /// Searches a list of 131,072 values, of 4,096 blocks, and returns what was read.
+// claim: uses/5-6 a search of 131,072 values reads 13 entries, 1 block; intersections are bounded
 pub fn search(list: &PackedList<'_, BitPacker1x>, target: u32) -> Reads
     requires { kind_of list.now ≢ ListKind.Plain }
     ensures { length (values list.now) ≡ 131072 → (result.entries ≤ 13) × (result.blocks ≤ 1) }

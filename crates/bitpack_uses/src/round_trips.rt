@@ -48,6 +48,7 @@ pub fn chain<P: BitPacker>(
     requires output { length unpacked.old ≡ length values.now }
     ensures packed { Chained P.lanes kind values.now widths.new (take result bytes.new) }
     ensures rest { drop result bytes.new ≡ drop result bytes.old }
+    // claim: uses/1 uses/13 blocks, chains and lists come back as packed
     ensures same { unpacked.new ≡ values.now }
 {
     chains_read_back();

@@ -19,6 +19,7 @@ pub fn find<P: BitPacker, Q: BitPacker>(
 ) -> Result<Vec<u32>, ListError>
     requires ordered_a { kind_of a.now ≢ ListKind.Plain }
     requires ordered_b { kind_of b.now ≢ ListKind.Plain }
+    // claim: uses/7 exactly the shared values of two lists are found
     ensures found { IfOk result (λ shared. (value : ℕ) → Contains (values a.now) value → Contains (values b.now) value
         → Contains shared.items value) }
     ensures other { IfOk result (λ shared. (value : ℕ) → Contains shared.items value
@@ -48,6 +49,7 @@ pub fn append<P: BitPacker, Q: BitPacker>(
 }
 
 /// Appends the shared values without a count of reads. If memory runs out, the items and the room of the vector are unchanged.
+// claim: lists2/19 `intersect` needs no reader of its counts
 pub fn append_uncounted<P: BitPacker, Q: BitPacker>(
     a: &PackedList<'_, P>,
     b: &PackedList<'_, Q>,

@@ -44,6 +44,7 @@ pub fn read_block<P: BitPacker>(
 ) -> Result<usize, StoredError>
     ensures size { IfOk result (λ read. read ≡ size P.lanes width) }
     ensures ok { OnOk result (IsUnpacked P.lanes width kind bytes.now values.old values.new) }
+    // claim: uses/2 stored blocks are read, or refused for what is wrong
     ensures err { IfErr result (IsRefused P.lanes (width ∷ []) bytes.now values.old) }
     ensures unchanged { OnErr result (values.new ≡ values.old) }
 {

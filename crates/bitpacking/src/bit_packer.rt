@@ -36,6 +36,7 @@ use crate::Kind;
 ///     unpacked
 /// }
 /// ```
+// claim: blocks/9 blocks/13 the three calls by kind, and the nine calls with a kind in their name, run the counted calls
 pub trait BitPacker: Sized + Clone + Copy {
     /// How many values a block has: 32 for each lane of the packer.
     const BLOCK_LEN: usize;
@@ -57,6 +58,8 @@ pub trait BitPacker: Sized + Clone + Copy {
     ) -> usize
         requires { CanPack lanes num_bits kind decompressed.now compressed.old }
         ensures size { result ≡ size lanes num_bits }
+        // claim: chains/5 the proofs need these clauses
+        // claim: blocks/1-2 compressing writes the block's bytes
         ensures packed { IsPacked lanes num_bits kind decompressed.now compressed.old compressed.new };
 
     /// Unpacks a block of a kind, as the decompress call of that kind does, and returns the number of bytes read.
@@ -69,11 +72,15 @@ pub trait BitPacker: Sized + Clone + Copy {
     ) -> usize
         requires { CanUnpack lanes num_bits compressed.now decompressed.old }
         ensures size { result ≡ size lanes num_bits }
+        // claim: chains/5
+        // claim: blocks/3-4 decompressing writes the block that any bytes hold
         ensures unpacked { IsUnpacked lanes num_bits kind compressed.now decompressed.old decompressed.new };
 
     /// Returns the least width of a block of a kind, from 0 to 32, as the width call of that kind finds it.
     fn num_bits_kind(&self, kind: Kind, decompressed: &[u32]) -> u8
         requires { length decompressed.now ≡ BLOCK_LEN }
+        // claim: chains/5
+        // claim: blocks/5 returns the least width, at most 32
         ensures width { IsWidth kind decompressed.now result }
         ensures narrow { result ≤ 32 };
 
@@ -211,6 +218,7 @@ pub trait BitPacker: Sized + Clone + Copy {
 
     /// Returns how many bytes a block takes at `num_bits` bits per value. Accepts any width, also above 32.
     #[must_use]
+    // claim: blocks/6 returns 4 * lanes * b for every `u8` b
     fn compressed_block_size(num_bits: u8) -> usize
         ensures { result ≡ size lanes num_bits }
     {

@@ -11,6 +11,8 @@ use std::simd::prelude::*;
 
 /// Packs blocks of 128 values. Value k is in lane k % 4; the codes of a lane follow each other in every fourth word.
 #[derive(Clone, Copy)]
+// claim: blocks/10-12 `new` needs vectors and runs on them, `scalar` on arrays; a clone is the same (`clone_same`); the compiler tests the
+//   others
 pub struct BitPacker4x(InstructionSet);
 
 impl BitPacker4x {

@@ -12,6 +12,9 @@ use crate::{BitPacker, Kind, Steps};
 ///
 /// A load or store of one register moves `BLOCK_LEN` / 32 values, or four times as many bytes. [`Steps`] has no size at
 /// run time: only contracts see the counts.
+// claim: lines/8 the proofs need clauses of lists and of counted calls
+// claim: blocks/7-8 at width b packing loads 32 registers (none at 0) and stores b; unpacking loads b, stores 32; a width call loads 32; at
+//   most 32 + b bits of a lane wait
 pub trait Counted: BitPacker {
     /// Packs a block: 32 loads, and a store for each bit of the width. At width 0 nothing is loaded.
     fn pack_counted(

@@ -25,6 +25,7 @@ pub trait Unmeasured: BitPacker {
         requires narrow { num_bits ≤ 32 }
         requires room { size Self.lanes num_bits ≤ length compressed.old }
         ensures size { result ≡ size Self.lanes num_bits }
+        // claim: blocks/14 without the condition that values fit: as many bytes, later ones unchanged; of values that fit, the block's
         ensures packed { Fits (codes kind decompressed.now) num_bits
             → IsPacked Self.lanes num_bits kind decompressed.now compressed.old compressed.new }
         ensures rest { drop (size Self.lanes num_bits) compressed.new ≡ drop (size Self.lanes num_bits) compressed.old }

@@ -3,9 +3,10 @@ use Rattle.std.proofs.Common.{ℕ, ◌^◌, ◌≤◌, Bool, not, List, length, 
 use Rattle.std.specs.List.{range_with_len}
 use Rattle.std.proofs.lemmas.List.Filters.{length-filter_both}
 use Rattle.std.proofs.lemmas.List.FromFn.{length-range_with_len}
-use Rattle.bitpack_sets.specs.Operations.{answer_all, folded, those}
-use Rattle.bitpack_sets.specs.Reads.{has}
-use Rattle.bitpack_sets.specs.declared.operation.Operation.{Operation}
+use Rattle.bitpack_slices.specs.Operations.{those}
+use Rattle.bitpack_queries.specs.Operations.{answer_all, folded}
+use Rattle.bitpack_slices.specs.Reads.{has}
+use Rattle.bitpack_slices.specs.declared.operation.Operation.{Operation}
 
 those_few : (bound : ℕ) (passes : ℕ → Bool) → length (those bound passes) ≤ bound
 unfolding those

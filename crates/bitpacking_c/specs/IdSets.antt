@@ -1,9 +1,9 @@
 -- What the calls on id sets return.
 use Rattle.std.specs.Prelude.{◌≡◌, ℕ, ◌+◌, ◌≤◌, ◌⊎◌, ℤ, pos, negsuc, Bool, true, false, List, length, slice_get, Option, Some, None, Result, Ok, Err}
-use Rattle.bitpack_sets.specs.declared.set_error.SetError.{SetError}
-use Rattle.bitpack_sets.specs.declared.set_error.SetError.TheVariants.{NotSorted, Short}
-use Rattle.bitpack_sets.specs.Errors.{number_of_error}
-use Rattle.bitpack_sets.specs.Reads.{rank}
+use Rattle.bitpack_slices.specs.declared.set_error.SetError.{SetError}
+use Rattle.bitpack_slices.specs.declared.set_error.SetError.TheVariants.{NotSorted, Short}
+use Rattle.bitpack_slices.specs.Errors.{number_of_error}
+use Rattle.bitpack_slices.specs.Reads.{rank}
 use Rattle.bitpack_sets.specs.Sets.{IsSet, encoding}
 use Rattle.bitpack_sets.specs.Written.{WritesSet}
 

@@ -1,7 +1,7 @@
 -- What the calls on many id sets return: the ids that all have, that any has, or that the first has and no other.
 use Rattle.std.specs.Prelude.{◌≡◌, ℕ, ◌<◌, ◌≤◌, ℤ, pos, negsuc, List, length, map, take}
-use Rattle.bitpack_sets.specs.declared.operation.Operation.{Operation}
-use Rattle.bitpack_sets.specs.Operations.{answer_all}
+use Rattle.bitpack_slices.specs.declared.operation.Operation.{Operation}
+use Rattle.bitpack_queries.specs.Operations.{answer_all}
 use Rattle.bitpack_sets.specs.Reads.{ids_in}
 use Rattle.bitpacking_c.specs.declared.set_view.SetView.{SetView}
 

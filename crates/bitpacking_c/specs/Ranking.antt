@@ -7,7 +7,7 @@ use Rattle.bitpack_ranked.specs.Terms.{Word}
 use Rattle.bitpack_ranked.specs.declared.found.Scored.{Scored}
 use Rattle.bitpack_ranked.specs.declared.walk.Walk.{Walk}
 use Rattle.bitpack_sets.specs.Reads.{ids_in}
-use Rattle.bitpack_sets.specs.Slices.{first_fall}
+use Rattle.bitpack_slices.specs.Slices.{first_fall}
 use Rattle.bitpacking_c.specs.Terms.{table_or_zeros}
 use Rattle.bitpacking_c.specs.declared.column_view.ColumnView.{ColumnView}
 use Rattle.bitpacking_c.specs.declared.set_view.SetView.{SetView}

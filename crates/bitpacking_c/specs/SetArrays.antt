@@ -1,11 +1,11 @@
 -- What the calls on a set and the ids of an array return.
 use Rattle.std.specs.Prelude.{◌≡◌, ◌≢◌, ℕ, ◌<◌, ◌≤◌, ℤ, pos, negsuc, Bool, None, List, drop, length, take, Result, Err, IfErr, IfOk, MatchOption, OnErr}
 use Rattle.std.specs.List.{filter}
-use Rattle.bitpack_sets.specs.declared.operation.Operation.TheVariants.{Or}
-use Rattle.bitpack_sets.specs.declared.set_error.SetError.{SetError}
-use Rattle.bitpack_sets.specs.declared.set_error.SetError.TheVariants.{NotSorted, Short}
-use Rattle.bitpack_sets.specs.Operations.{answer}
-use Rattle.bitpack_sets.specs.Slices.{first_fall}
+use Rattle.bitpack_slices.specs.declared.operation.Operation.TheVariants.{Or}
+use Rattle.bitpack_slices.specs.declared.set_error.SetError.{SetError}
+use Rattle.bitpack_slices.specs.declared.set_error.SetError.TheVariants.{NotSorted, Short}
+use Rattle.bitpack_slices.specs.Operations.{answer}
+use Rattle.bitpack_slices.specs.Slices.{first_fall}
 use Rattle.bitpacking_c.specs.IdSets.{NumbersSet}
 
 -- the ids do not increase, the result is -30 and nothing was written; or those that pass a test were moved to the front, in their order, and

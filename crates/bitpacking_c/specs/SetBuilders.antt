@@ -1,7 +1,7 @@
 -- What the calls on builders of sets return, and what they leave in the caller's buffer.
 use Rattle.std.specs.Prelude.{◌≡◌, ℕ, ◌+◌, ◌<◌, List, [], ◌++◌, drop, length, take, None, Result, Err, IfErr, IfOk, MatchOption, OnErr, OnOk}
-use Rattle.bitpack_sets.specs.declared.set_error.SetError.{SetError}
-use Rattle.bitpack_sets.specs.declared.set_error.SetError.TheVariants.{Short}
+use Rattle.bitpack_slices.specs.declared.set_error.SetError.{SetError}
+use Rattle.bitpack_slices.specs.declared.set_error.SetError.TheVariants.{Short}
 use Rattle.bitpack_sets.specs.Written.{refusal}
 use Rattle.bitpacking_c.specs.declared.set_builder.SetBuilder.{SetBuilder}
 

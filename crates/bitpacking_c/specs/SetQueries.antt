@@ -1,11 +1,12 @@
 -- What the call on a query over sets returns.
 use Rattle.std.specs.Prelude.{◌≡◌, ℕ, ◌++◌, ◌==◌, if◌then◌else◌, ℤ, pos, negsuc, List, length, min, take, None, Some}
-use Rattle.bitpack_sets.specs.Queries.{answer_of, ids_from, query_fault}
-use Rattle.bitpack_sets.specs.declared.operation.Operation.TheVariants.{And, AndNot, Or, Xor}
-use Rattle.bitpack_sets.specs.declared.query_error.QueryError.{QueryError}
-use Rattle.bitpack_sets.specs.declared.query_error.QueryError.TheVariants.{LeftOver, MissingOperand, NoSet, Short, TooDeep}
-use Rattle.bitpack_sets.specs.declared.step.Step.{Step}
-use Rattle.bitpack_sets.specs.declared.step.Step.TheVariants.{Combine, Set}
+use Rattle.bitpack_slices.specs.Reads.{ids_from}
+use Rattle.bitpack_queries.specs.Queries.{answer_of, query_fault}
+use Rattle.bitpack_slices.specs.declared.operation.Operation.TheVariants.{And, AndNot, Or, Xor}
+use Rattle.bitpack_queries.specs.declared.query_error.QueryError.{QueryError}
+use Rattle.bitpack_queries.specs.declared.query_error.QueryError.TheVariants.{LeftOver, MissingOperand, NoSet, Short, TooDeep}
+use Rattle.bitpack_queries.specs.declared.step.Step.{Step}
+use Rattle.bitpack_queries.specs.declared.step.Step.TheVariants.{Combine, Set}
 use Rattle.bitpacking_c.specs.ManySets.{ids_of_views}
 use Rattle.bitpacking_c.specs.declared.set_view.SetView.{SetView}
 

@@ -10,6 +10,7 @@ use bitpacking::{BitPacker, BitPacker1x, Kind};
 
 /// Packs a block at its least width, which goes into `num_bits`. Returns the number of bytes.
 #[unsafe(no_mangle)]
+// claim: c/8 a call that fails writes nothing else
 pub extern "C" fn bitpacking_1x_pack(
     decompressed: &[u32],
     compressed: &mut [u8],

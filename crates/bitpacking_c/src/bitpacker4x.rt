@@ -15,6 +15,7 @@ pub extern "C" fn bitpacking_4x_pack(
     compressed: &mut [u8],
     num_bits: &mut u8,
 ) -> isize
+    // claim: c/1-4 `compress`, `pack`, `decompress`, `num_bits`: as `blocks/1-5`
     ensures { Answers result
         (PacksLeast 4 num_bits.old num_bits.new Plain decompressed.now compressed.old compressed.new) }
 {

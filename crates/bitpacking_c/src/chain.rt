@@ -16,6 +16,7 @@ pub(crate) fn pack_all<P: BitPacker>(
     widths: &mut [u8],
     out: &mut [u8],
 ) -> Result<usize, CallError>
+    // claim: c/5-6 `pack_all`, whose room is the chain's length, and `unpack_all`: as `chains/1-3`
     ensures packs { PacksAll P.lanes kind values.now widths.old widths.new out.old out.new result }
     ensures small { IfOk result (λ count. count < 2 ^ 63) }
 {

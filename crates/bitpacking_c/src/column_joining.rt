@@ -40,6 +40,7 @@ pub extern "C" fn bitpacking_column_join(
     bytes: &mut [u8],
     position: &mut usize,
 ) -> isize
+    // claim: c/28-29 `column_append`, `column_join`: as `columns/15`, `columns/19`
     ensures { JoinsColumn (kind_in view.now.bytes.now) (values_in view.now.bytes.now) base
         (values_in other.now.bytes.now) (length room.old) bytes.old bytes.new position.old position.new result }
 {

@@ -20,6 +20,7 @@ pub extern "C" fn bitpacking_column_pack(
     bytes: &mut [u8],
     position: &mut usize,
 ) -> isize
+    // claim: c/17 a column of values, its length: as `columns/13`; refuses unknown kinds
     ensures { PacksColumn kind values.now bytes.old bytes.new position.old position.new result }
 {
     if kind > 1 {

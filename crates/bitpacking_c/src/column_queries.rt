@@ -17,6 +17,7 @@ pub extern "C" fn bitpacking_column_gather(
     positions: &[usize],
     values: &mut [u32],
 ) -> isize
+    // claim: c/21-24 `column_gather`, `column_seek`, `column_count_between`, `column_between`, `column_bounds`: what `columns/5-10` return
     ensures { Gathers (values_in view.now.bytes.now) positions.now values.old values.new result }
 {
     if values.len() < positions.len() {

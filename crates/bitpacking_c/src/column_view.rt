@@ -103,6 +103,7 @@ pub(crate) fn kind_of_number(number: u8) -> ColumnKind
 #[unsafe(no_mangle)]
 pub extern "C" fn bitpacking_column_open<'a>(bytes: &'a [u8], view: &mut ColumnView<'a>) -> isize
     ensures answer { result ≡ column_fault_number (fault bytes.now) }
+    // claim: c/11
     ensures opened { fault bytes.now ≡ None → view.new.bytes.now ≡ bytes.now }
     ensures column { fault bytes.now ≡ None → EncodeColumn view.new.bytes.now }
     ensures unchanged { fault bytes.now ≢ None → view.new ≡ view.old }
@@ -180,6 +181,8 @@ pub extern "C" fn bitpacking_column_range(
     from: usize,
     values: &mut [u32],
 ) -> isize
+    // claim: c/19-20 `column_len`, `column_kind`, `column_get`, `column_unpack`, `column_range`: as `columns/2-6`; zeros are the empty
+    //   plain column
     ensures { UnpacksFrom from (values_in view.now.bytes.now) values.old values.new result }
 {
     view.column().copy_range(from, values) as isize

@@ -43,6 +43,7 @@ pub extern "C" fn bitpacking_column_unpack_wide(
     base: u64,
     values: &mut [u64],
 ) -> isize
+    // claim: c/25 c/32 sums of ids or values and a base, at most `most_base`
     ensures { UnpacksSums base (values_in view.now.bytes.now) values.old values.new result }
 {
     if base > MOST_BASE {

@@ -21,6 +21,7 @@ pub extern "C" fn bitpacking_term_start<'a>(
     counts: &ColumnView<'a>,
     table: &'a [u32],
 ) -> isize
+    // claim: c/40
     ensures { StartsTerm (word_of_views set.now counts.now table.now) term.old term.new result }
 {
     if set.as_set().len() != counts.column().len() {
@@ -49,6 +50,8 @@ pub extern "C" fn bitpacking_best(
     walks: &mut [Walk],
     found: &mut [Scored],
 ) -> isize
+    // claim: c/40 `best`, `best_among`: as `ranked/1`, `ranked/4`, of terms that `term_start` tests as `ranked/2-3`; zeros are a word of no
+    //   document; at most 2^28 terms
     ensures { FindsBest terms.now classes.now at_least (walks.old, walks.new) (found.old, found.new) result }
 {
     if terms.len() > MOST {
@@ -69,6 +72,7 @@ pub extern "C" fn bitpacking_best_among(
     classes: &[u8],
     found: &mut [Scored],
 ) -> isize
+    // claim: c/40
     ensures { FindsBestAmong documents.now terms.now classes.now (found.old, found.new) result }
 {
     if terms.len() > MOST {

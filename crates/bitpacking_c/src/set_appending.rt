@@ -9,11 +9,13 @@ ghost use Rattle.bitpacking_c.specs.IdSets.{AnswersSet};
 use crate::set_packing::answer;
 use crate::set_view::SetView;
 use bitpack_sets::laws::longest_encoding;
-use bitpack_sets::{AsSet, IdSet, SetError, append_to};
+use bitpack_sets::{AsSet, IdSet, append_to};
+use bitpack_slices::SetError;
 
 /// Writes the set of the ids of a set and of more ids after them at the start of `bytes`, and returns its length. The rest of `bytes` is
 /// unchanged. `room` is work space for ids. It has the errors of `bitpacking_set_pack`, and returns -3 also if the work space is too short.
 #[unsafe(no_mangle)]
+// claim: c/34
 pub extern "C" fn bitpacking_set_append(
     view: &SetView<'_>,
     ids: &[u32],

@@ -2,10 +2,11 @@
 
 ghost use Rattle.std.proofs.Props.{props};
 ghost use Rattle.std.specs.Prelude.{◌≤◌, length, take};
-ghost use Rattle.bitpack_sets.specs.Props.{rising_prop};
+ghost use Rattle.bitpack_slices.specs.Props.{rising_prop};
 ghost use Rattle.bitpack_sets.specs.Sets.{IsSet};
 
-use bitpack_sets::{SetError, test_pushed};
+use bitpack_sets::test_pushed;
+use bitpack_slices::SetError;
 
 /// The ids of a set that is not finished. It borrows the buffer that has them.
 ///

@@ -21,6 +21,7 @@ pub extern "C" fn bitpacking_set_builder_start<'a>(builder: &mut SetBuilder<'a>,
 /// if the buffer is full -3; then nothing is written.
 #[unsafe(no_mangle)]
 pub extern "C" fn bitpacking_set_builder_push(builder: &mut SetBuilder<'_>, id: u32) -> isize
+    // claim: c/26-27 c/36-37 builders in the caller's buffer: as `columns/14`, `sets/13-14`
     ensures answer { NumbersSet result (PushesSet builder.old builder.new (id ∷ [])) }
     ensures same_buffer { builder.new.ids.ghost_name ≡ builder.old.ids.ghost_name }
 {

@@ -3,7 +3,8 @@
 ghost use Rattle.bitpacking_c.specs.ManySets.{CombinesSets, CountsSets};
 
 use super::set_view::SetView;
-use bitpack_sets::{Operation, combine_all_count, combine_all_to};
+use bitpack_queries::{combine_all_count, combine_all_to};
+use bitpack_slices::Operation;
 
 /// Writes the ids that all sets have to the front of `ids`, in increasing order, and returns their number. If there is no room for them it
 /// returns -3.
@@ -18,6 +19,7 @@ pub extern "C" fn bitpacking_set_intersect(views: &[SetView<'_>], ids: &mut [u32
 /// it returns -3.
 #[unsafe(no_mangle)]
 pub extern "C" fn bitpacking_set_unite(views: &[SetView<'_>], ids: &mut [u32]) -> isize
+    // claim: c/15-16 writes, counts ids of all sets, of any, of the first alone
     ensures { CombinesSets Operation.Or views.now ids.old ids.new result }
 {
     combine(Operation::Or, views, ids)

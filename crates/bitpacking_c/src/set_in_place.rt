@@ -1,13 +1,15 @@
 //! An id set combined with the increasing ids of an array, in the array.
 
 ghost use Rattle.std.specs.Prelude.{not};
-ghost use Rattle.bitpack_sets.specs.Retained.{retains};
-ghost use Rattle.bitpack_sets.specs.Reads.{has, ids_in};
+ghost use Rattle.bitpack_queries.specs.Retained.{retains};
+ghost use Rattle.bitpack_slices.specs.Reads.{has};
+ghost use Rattle.bitpack_sets.specs.Reads.{ids_in};
 ghost use Rattle.bitpacking_c.specs.SetArrays.{AddsIds, RetainsIds};
 
 use crate::set_packing::answer;
 use crate::set_view::SetView;
-use bitpack_sets::{AsSet, add_to, first_unsorted, retain_if};
+use bitpack_queries::{add_to, retain_if};
+use bitpack_sets::{AsSet, first_unsorted};
 
 /// Retains the ids of an array that the set has too: moves them to the front, in their order, and returns their number. If the array's ids do
 /// not increase it returns -30 and writes nothing.
@@ -42,6 +44,7 @@ fn retain_ids(view: &SetView<'_>, ids: &mut [u32], there: bool) -> isize
 /// of the array is unchanged.
 #[unsafe(no_mangle)]
 pub extern "C" fn bitpacking_set_add(view: &SetView<'_>, count: usize, ids: &mut [u32]) -> isize
+    // claim: c/34-35 c/38 `set_retain`, `set_remove`, `set_add`, `set_append`: as `sets/18-19`, `sets/15`
     ensures { AddsIds (ids_in view.now.bytes.now) count ids.old ids.new result }
 {
     if count > ids.len() {

@@ -5,7 +5,8 @@ ghost use Rattle.bitpack_sets.specs.Written.{MeasuresSet, WritesSet};
 ghost use Rattle.bitpacking_c.specs.IdSets.{AnswersSet, PacksSet, number_of_set, position_after_set};
 
 use bitpack_sets::laws::longest_encoding;
-use bitpack_sets::{SetError, encode_to, encoded_len};
+use bitpack_sets::{encode_to, encoded_len};
+use bitpack_slices::SetError;
 
 /// Writes the id set of these ids at the start of `bytes`, and returns its length. The rest of `bytes` is unchanged. The ids have to
 /// increase, and are at most 268,435,456.
@@ -14,6 +15,7 @@ use bitpack_sets::{SetError, encode_to, encoded_len};
 /// not above the one before it.
 #[unsafe(no_mangle)]
 pub extern "C" fn bitpacking_set_pack(ids: &[u32], bytes: &mut [u8], position: &mut usize) -> isize
+    // claim: c/10 c/30 a set of ids, its length: as `sets/7-9`
     ensures { PacksSet ids.now bytes.old bytes.new position.old position.new result }
 {
     answer(pack(ids, bytes), position)

@@ -1,13 +1,15 @@
 //! Two sets: the ids that one of them has, and whether one is within the other, or they share no id.
 
 ghost use Rattle.std.specs.Prelude.{◌≡◌, [], IsTrue};
-ghost use Rattle.bitpack_sets.specs.Operations.{answer};
+ghost use Rattle.bitpack_slices.specs.Operations.{answer};
 ghost use Rattle.bitpack_sets.specs.Reads.{ids_in};
 ghost use Rattle.bitpacking_c.specs.IdSets.{SaysWhether};
 ghost use Rattle.bitpacking_c.specs.ManySets.{WritesIds};
 
 use crate::set_view::SetView;
-use bitpack_sets::{AsSet, Operation, combine_to, is_disjoint, is_subset};
+use bitpack_queries::{combine_to, is_disjoint, is_subset};
+use bitpack_sets::AsSet;
+use bitpack_slices::Operation;
 
 /// Writes the ids that exactly one of two sets has to the front of `ids`, in increasing order, and returns their number. If there is no room
 /// for them it returns -3.
@@ -29,6 +31,7 @@ pub extern "C" fn bitpacking_set_symmetric_difference(
 /// Returns 1 if each id of the first set is in the second, and else 0.
 #[unsafe(no_mangle)]
 pub extern "C" fn bitpacking_set_is_subset(first: &SetView<'_>, second: &SetView<'_>) -> i32
+    // claim: c/33 the ids that exactly one of two sets has; whether one is within the other, or they share none
     ensures { SaysWhether
         (answer Operation.AndNot (ids_in first.now.bytes.now) (ids_in second.now.bytes.now) ≡ []) result }
 {

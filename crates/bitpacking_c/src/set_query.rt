@@ -4,7 +4,8 @@ ghost use Rattle.std.specs.Prelude.{◌≡◌, ◌/◌, length, map};
 ghost use Rattle.bitpacking_c.specs.SetQueries.{AnswersQuery, refusal, step_of};
 
 use crate::set_view::SetView;
-use bitpack_sets::{AsStep, Operation, QueryError, Step, query_to, test_query};
+use bitpack_queries::{AsStep, QueryError, Step, query_to, test_query};
+use bitpack_slices::Operation;
 
 // The numbers of operations.
 const AND: u32 = 0xFFFF_FFFF;
@@ -50,6 +51,7 @@ pub extern "C" fn bitpacking_set_query(
     ids: &mut [u32],
     position: &mut usize,
 ) -> isize
+    // claim: c/39 `set_query`: as `sets/26`, with steps as numbers
     ensures { AnswersQuery views.now (map (λ step. step_of step.number) steps.now) (length space.old / 1024)
         (next.old, next.new) (position.old, position.new) (space.old, space.new) ids.old ids.new result }
 {

@@ -3,7 +3,8 @@
 ghost use Rattle.std.specs.Prelude.{◌≡◌, ◌≢◌, [], length, None};
 ghost use Rattle.bitpack_sets.specs.Faults.{fault};
 ghost use Rattle.bitpack_sets.specs.Opened.{ids};
-ghost use Rattle.bitpack_sets.specs.Reads.{has, ids_in};
+ghost use Rattle.bitpack_slices.specs.Reads.{has};
+ghost use Rattle.bitpack_sets.specs.Reads.{ids_in};
 ghost use Rattle.bitpack_sets.specs.Stated.{States};
 ghost use Rattle.bitpacking_c.specs.IdSets.{Encodes, SeeksId, number_of_answer, set_fault_number};
 ghost use Rattle.bitpacking_c.specs.Views.{Gets, UnpacksValues};
@@ -84,6 +85,7 @@ fn no_ids<'a>() -> IdSet<'a>
 
 /// Opens an id set. Tests all bytes. Returns 0, or the number of the first fault.
 #[unsafe(no_mangle)]
+// claim: c/11 c/18 opens exactly the bytes of a set, a column; `set_open_tested`, `column_open_tested` require that
 pub extern "C" fn bitpacking_set_open<'a>(bytes: &'a [u8], view: &mut SetView<'a>) -> isize
     ensures answer { result ≡ set_fault_number (fault bytes.now) }
     ensures opened { fault bytes.now ≡ None → view.new.bytes.now ≡ bytes.now }
@@ -169,6 +171,8 @@ pub extern "C" fn bitpacking_set_seek(
     position: &mut usize,
     id: &mut u32,
 ) -> i32
+    // claim: c/12-14 c/31 `set_len`, `set_contains`, `set_rank`, `set_get`, `set_seek`, `set_unpack`, `set_slice`: as `sets/2-4`; zeros are
+    //   the empty set
     ensures { SeeksId (ids_in view.now.bytes.now) target (position.old, id.old) (position.new, id.new) result }
 {
     let Some(set) = view.set() else {

@@ -4,7 +4,7 @@ ghost use Rattle.std.proofs.Props.{props};
 ghost use Rattle.std.specs.Prelude.{◌≡◌, length, replicate};
 ghost use Rattle.bitpack_columns.specs.Stated.{values_in};
 ghost use Rattle.bitpack_ranked.specs.Scores.{IsTable};
-ghost use Rattle.bitpack_sets.specs.Props.{rising_prop};
+ghost use Rattle.bitpack_slices.specs.Props.{rising_prop};
 ghost use Rattle.bitpack_sets.specs.Reads.{ids_in};
 ghost use Rattle.bitpack_sets.specs.Sets.{IsSet};
 ghost use Rattle.bitpacking_c.specs.Terms.{table_or_zeros};

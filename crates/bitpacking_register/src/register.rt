@@ -29,6 +29,7 @@ ghost use Rattle.bitpacking_register.specs.Words.{
 ghost use Rattle.bitpacking_register.specs.Deltas.{differences, running_sums};
 
 /// A list of `LANES` words, lane 0 first.
+// claim: registers/1 each operation does to the words what its name says
 pub trait Register: Copy {
     /// How many words a register has: from 1 to 8.
     const LANES: usize;

@@ -34,6 +34,7 @@ pub(crate) fn format_found(alloc: Global, found: Option<(usize, u32)>) -> Result
 }
 
 /// Bytes as pairs of lower-case digits.
+// claim: lines/9 the crate `hex` prints bytes; the compiler tests it
 pub(crate) fn format_bytes(alloc: Global, bytes: &[u8]) -> Result<Answer, AllocError>
     ensures answer { IfOk result (λ answer. printed answer ≡ printed_bytes bytes.now) }
     ensures range { AreBytes bytes.now }

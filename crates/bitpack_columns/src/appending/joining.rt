@@ -53,6 +53,8 @@ pub fn join(
     ensures ok { OnOk result (out.new.items
         ≡ out.old.items ++ encoding (kind_of column.now) (values column.now ++ raised base (values other.now))) }
     // A fault is not found if there is no room for the values of the other column.
+    // claim: columns/19 as `columns/15`, of another column's values plus a base; `Overflow` for the first above `u32::MAX`; `Memory` only
+    //   if a vector lacks room
     ensures fault { MatchOption (joined_refusal (kind_of column.now) (values column.now) base (values other.now))
         (IfErr result (λ e. e ≡ ColumnError.Memory)) (λ fault. (result ≡ Err fault)
         ⊎ ((result ≡ Err ColumnError.Memory) × (vec_capacity room.old < length (values other.now)))) }

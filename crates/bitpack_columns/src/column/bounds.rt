@@ -18,6 +18,8 @@ impl<'a> Column<'a> {
     /// one the first is the value before the block, and the second its last value.
     pub fn bounds(&self, block: usize) -> (u32, u32)
         requires { block < blocks_of self.now }
+        // claim: columns/10 bounds of a block's values: if plain the least, and this plus the greatest number of the block's width; if
+        //   sorted the value before the block and its last; from two marks or widths
         ensures { AreBounds (kind_of self.now) (values self.now) block result.0 result.1 }
     {
         self.bounds_counted(block, &mut Reads::new())

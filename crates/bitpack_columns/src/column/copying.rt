@@ -66,6 +66,7 @@ impl<'a> Column<'a> {
     /// The rest of the slice is unchanged. Allocates nothing, and unpacks each block that has such values once, and no other.
     pub fn copy_range(&self, from: usize, out: &mut [u32]) -> usize
         ensures len { result ≡ min (length out.old) (length (values self.now) - from) }
+        // claim: columns/6 as `sets/4`, of values
         ensures values { take result out.new ≡ take result (drop from (values self.now)) }
         ensures rest { drop result out.new ≡ drop result out.old }
     {

@@ -30,6 +30,7 @@ impl<'a> Column<'a> {
         Some(self.value_at(position, &mut Reads::new()))
     }
 
+    // claim: columns/4 the value at a position; unpacks one block, none in whole plain blocks
     fn value_at(&self, position: usize, reads: &mut Reads) -> u32
         requires { position < length (values self.now) }
         ensures value { result ≡ slice_index (values self.now) position }
@@ -73,6 +74,7 @@ impl<'a> Column<'a> {
         requires room { length positions.now ≤ length out.old }
         ensures ok { OnOk result (HasAll (values self.now) positions.now out.new) }
         ensures within { OnOk result (AreWithin (length (values self.now)) positions.now) }
+        // claim: columns/5 the values at positions, or the first position past the end; unpacks a block for each run of positions
         ensures err { IfErr result (λ index. IsFirstBeyond (values self.now) positions.now index) }
         ensures rest { drop (length positions.now) out.new ≡ drop (length positions.now) out.old }
         ensures unchanged { OnErr result (out.new ≡ out.old) }

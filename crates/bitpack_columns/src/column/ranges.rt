@@ -16,6 +16,7 @@ impl<'a> Column<'a> {
     /// Returns how many values are within a range, both ends included.
     ///
     /// In a sorted column it looks for both ends, as `seek` does. In a plain one it unpacks the blocks whose bounds do not decide, and the tail.
+    // claim: columns/8 how many values are in a range, ends included; two searches, if plain the tail and blocks whose bounds do not tell
     pub fn count_between(&self, low: u32, high: u32) -> usize
         ensures { result ≡ length (positions_between low high 0 (values self.now)) }
     {
@@ -41,6 +42,8 @@ impl<'a> Column<'a> {
     ///
     /// If the slice is full, a caller goes on from the position after the last. It unpacks what `count_between` unpacks, up to the last
     /// position that it writes.
+    // claim: columns/9 the positions of these values, from a position on, as many as fit; unpacks as `columns/8`, and nothing for an empty
+    //   slice
     pub fn positions_between(&self, low: u32, high: u32, from: usize, out: &mut [usize]) -> usize
         ensures { FindsPositions low high from (values self.now) result out.old out.new }
     {

@@ -20,6 +20,8 @@ impl<'a> Column<'a> {
     /// It halves the blocks that are left at each mark that it reads, and unpacks one block, or the tail. Fails with `WrongKind` if the
     /// column is plain.
     pub fn seek(&self, target: u32) -> Result<Option<(usize, u32)>, ColumnError>
+        // claim: columns/7 the first value of a sorted column from a target on; refuses plain ones; reads digits(B) marks, unpacks one
+        //   block
         ensures found { kind_of self.now ≡ Sorted → result ≡ Ok (first_from target 0 (values self.now)) }
         ensures plain { kind_of self.now ≡ Plain → result ≡ Err (ColumnError.WrongKind Plain Sorted) }
     {

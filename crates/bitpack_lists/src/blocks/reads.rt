@@ -79,6 +79,7 @@ impl Entry {
 
 /// A packed list whose bytes were tested when it was opened, so that reading it tests nothing again and cannot fail.
 #[derive(Drop)]
+// claim: lists2/20 only the file of `Reads` has the bytes of an opened list; the compiler tests it
 pub struct PackedList<'a, P: BitPacker> {
     packer: P,
     pub(crate) kind: ListKind,

@@ -16,6 +16,7 @@ impl<'a, P: BitPacker> PackedList<'a, P> {
     /// Appends all values. Unpacks each block once.
     ///
     /// Fails only with `Memory`, if the vector cannot grow by the length of the list.
+    // claim: lists2/16-17 appends all values; memory rule; reads B entries, unpacks B blocks
     pub fn append_to(&self, out: &mut Vec<u32>) -> Result<(), ListError>
         ensures ok { OnOk result (out.new.items ≡ out.old.items ++ values self.now) }
         ensures memory { IfErr result (λ e. e ≡ ListError.Memory) }
@@ -37,6 +38,7 @@ impl<'a, P: BitPacker> PackedList<'a, P> {
         requires room { length out.old ≡ self.now.count }
         ensures values { out.new ≡ values self.now }
         ensures entries { reads.new.entries ≡ reads.old.entries + blocks_of self.now }
+        // claim: lists2/16
         ensures blocks { reads.new.blocks ≡ reads.old.blocks + blocks_of self.now }
     {
         let len = P::BLOCK_LEN;

@@ -17,6 +17,7 @@ impl<'a, P: BitPacker> PackedList<'a, P> {
         requires block { number < blocks_of self.now }
         requires index { index < P.BLOCK_LEN }
         ensures value { result ≡ slice_index (block_of_list self.now number) index }
+        // claim: lists2/18 reading a value at a position reads one entry, and unpacks one block
         ensures reads { ReadsValue reads.old reads.new }
     {
         if P::BLOCK_LEN <= SHORT_BLOCK_LEN {

@@ -32,16 +32,23 @@ pub fn intersect<P: BitPacker, Q: BitPacker>(
     requires ordered_a { kind_of a.now ≢ ListKind.Plain }
     requires ordered_b { kind_of b.now ≢ ListKind.Plain }
     // By the law there is one list of common values.
+    // claim: lists2/11 appends the shared values of two ordered lists
     ensures ok { OnOk result ((shared : List ℕ) × IsCommon (values a.now) (values b.now) shared
         × (out.new.items ≡ out.old.items ++ shared)) }
+    // claim: lists2/12-13 `intersect` reads B entries of `a`, unpacks min(B, 2n+1) blocks for n values of `b`; of `b` n·digits(B) and
+    //   min(B, n)
+    // claim: lists2/8
     ensures reads_a { ReadsWalked P.lanes (values a.now) (values b.now) reads_a.old reads_a.new }
+    // claim: lists2/12
     ensures reads_b { ReadsSearched Q.lanes (values a.now) (values b.now) reads_b.old reads_b.new }
     // Memory runs out only if the vector has no room for as many values as the shorter list has.
     ensures memory { IfErr result (λ e. e ≡ ListError.Memory) }
+    // claim: lists2/14 `intersect` fails only with `Memory`, if there is no room for the shorter list; it then changes and reads nothing
     ensures room { OnErr result
         (vec_capacity out.old < vec_len out.old + min (length (values a.now)) (length (values b.now))) }
     ensures unchanged { OnErr result (out.new.items ≡ out.old.items) }
     ensures capacity { OnErr result (vec_capacity out.new ≡ vec_capacity out.old) }
+    // claim: lists2/14
     ensures unread { OnErr result ((reads_a.new ≡ reads_a.old) × (reads_b.new ≡ reads_b.old)) }
 {
     if out.reserve(a.count.min(b.count)).is_err() {

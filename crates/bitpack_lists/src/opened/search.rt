@@ -38,10 +38,13 @@ impl<'a, P: BitPacker> PackedList<'a, P> {
     /// The first value that is at least the target, with its position, or `None` if every value is below it.
     ///
     /// The list has to be sorted or strictly sorted. The search halves its skip entries. Unpacks at most one block.
+    // claim: lists2/8 no count of `Reads` falls
     pub fn seek(&self, target: u32, reads: &mut Reads) -> Option<(usize, u32)>
         requires { kind_of self.now ≢ ListKind.Plain }
         ensures found { result ≡ first_at_least (values self.now) target }
         // A search reads at most as many skip entries as the count of whole blocks has binary digits.
+        // claim: lists2/5-7 the first value of an ordered list from a target on; reads digits(B) entries, unpacks one block, none for the
+        //   tail
         ensures reads { IsSearched P.lanes (length (values self.now)) result reads.old reads.new }
     {
         match self.find_by_halves(target, reads) {

@@ -27,6 +27,7 @@ pub fn decode<P: BitPacker>(
     ensures ok { IfOk result (λ kind. (values : List ℕ) × List1 P.lanes kind values bytes.now
         × (out.new.items ≡ out.old.items ++ values)) }
     // Bytes with a fault are refused for the first, and bytes without one only if memory runs out.
+    // claim: lists/3-7 version 1: appends the values of a list, or fails with the first fault, `Memory`; memory rule
     ensures err { MatchOption (fault1 P.lanes bytes.now)
         (IfErr result (λ e. e ≡ ListError.Memory)) (λ fault. result ≡ Err fault) }
     // Memory runs out only if the vector has no room for the values.

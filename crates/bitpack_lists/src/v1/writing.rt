@@ -27,6 +27,7 @@ pub fn encode<P: BitPacker>(
     out: &mut Vec<u8>,
 ) -> Result<(), ListError>
     // What is appended is the encoded list of the values.
+    // claim: lists/1-2 version 1: appends the encoded list, or fails with `TooLong`, `Memory`
     ensures ok { OnOk result ((encoding : List ℕ) × AreBytes encoding × List1 P.lanes kind values.now encoding
         × (out.new.items ≡ out.old.items ++ encoding)) }
     // Too many values are refused as such, and others only if memory runs out.

@@ -34,6 +34,7 @@ pub fn upgrade<P: BitPacker>(packer: &P, bytes: &[u8], out: &mut Vec<u8>) -> Res
     // Bytes with a fault of version 1 are refused for the first, values out of order at the first that is, and others only if
     // memory runs out.
     ensures fault { MatchOption (fault1 P.lanes bytes.now) ⊤ (λ fault. result ≡ Err fault) }
+    // claim: lists2/9-10 converts version 1, or fails with its first fault, `NotSorted`, `Memory`; memory rule
     ensures order { (kind : ListKind) (values : List ℕ) → List1 P.lanes kind values bytes.now
         → MatchOption (first_out kind values) (IfErr result (λ e. e ≡ ListError.Memory))
         (λ position. result ≡ Err (ListError.NotSorted position)) }

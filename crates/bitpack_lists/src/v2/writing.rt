@@ -35,6 +35,7 @@ pub fn encode<P: BitPacker>(
         × (out.new.items ≡ out.old.items ++ encoding)) }
     // Too many values are refused as such, values out of order at the first that is, and others only if memory runs out.
     ensures long { 2 ^ 28 < length values.now → result ≡ Err (ListError.TooLong (length values.now)) }
+    // claim: lists2/1-2 version 2: appends the encoded list, or fails with `TooLong`, `NotSorted`, `Memory`; memory rule
     ensures order { length values.now ≤ 2 ^ 28
         → MatchOption (first_out kind values.now) (IfErr result (λ e. e ≡ ListError.Memory))
         (λ position. result ≡ Err (ListError.NotSorted position)) }

@@ -2,12 +2,13 @@
 //! FORMAT.md, "Chunks".
 
 ghost use Rattle.std.specs.Prelude.{◌≡◌, ◌<◌, length};
-ghost use Rattle.bitpack_sets.specs.Sets.{blocks, body, parts};
+ghost use Rattle.bitpack_slices.specs.Bodies.{blocks, parts};
+ghost use Rattle.bitpack_sets.specs.Sets.{body};
 ghost use Rattle.bitpack_sets.specs.Written.{IsChunk, counts, highs, lows, slice_ends, slices};
 
-use crate::encoding::integers::write_integers;
-use crate::slice::byte_len;
-use crate::slice::writing::{copy_lows, write_slice};
+use bitpack_slices::integers::write_integers;
+use bitpack_slices::slice::byte_len;
+use bitpack_slices::slice::writing::{copy_lows, write_slice};
 
 /// The most numbers of a slice.
 const LONGEST_SLICE: usize = 256;

@@ -3,16 +3,17 @@
 
 ghost use Rattle.std.specs.Prelude.{◌≡◌, ◌+◌, ◌*◌, ◌^◌, ◌≤◌, length};
 ghost use Rattle.std.specs.List.{concat};
-ghost use Rattle.bitpack_sets.specs.Sets.{IsSet, array, in_chunks, parts};
+ghost use Rattle.bitpack_slices.specs.Bodies.{parts};
+ghost use Rattle.bitpack_sets.specs.Sets.{IsSet, array, in_chunks};
 ghost use Rattle.bitpack_sets.specs.Varints as varints;
 ghost use Rattle.bitpack_sets.specs.Varints.{number};
 ghost use Rattle.bitpack_sets.specs.Written.{bodies, directory, ends_encoding, head, keys_encoding, sums_encoding};
 
 use crate::encoding::bodies::write_body;
-use crate::encoding::integers::write_integers;
 use crate::encoding::measuring::{body_len, measure_slices};
 use crate::encoding::runs::{CHUNK_BITS, run_len};
 use bitpack_groups::{byte_count, number_len, write_at, write_number};
+use bitpack_slices::integers::write_integers;
 
 /// How many bytes the array of `count` ids has.
 pub(crate) fn array_len(count: usize) -> usize

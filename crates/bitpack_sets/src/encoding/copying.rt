@@ -2,55 +2,36 @@
 //! FORMAT.md, "Chunks".
 
 ghost use Rattle.std.specs.Prelude.{◌≡◌, ◌^◌, ◌≤◌};
-ghost use Rattle.std.proofs.Props.{props};
-ghost use Rattle.bitpacking.specs.Bits.{AreBytes};
-ghost use Rattle.bitpack_sets.specs.Props.{rising_prop};
-ghost use Rattle.bitpack_sets.specs.Sound.{IsRest};
 
-use crate::directory::{begin_at, bodies_start, count_before, end_at, sum_at};
+use crate::directory::{Directory, begin_at, bodies_start, count_before, end_at, sum_at};
 use crate::encoding::chunks::{head_len, write_entries, write_head};
 use crate::encoding::measuring::{count_chunks, measure_bodies};
+use crate::form::Form;
+use crate::id_set::IdSet;
 use bitpack_groups::{byte_count, write_at};
 
 /// The chunks of a set in chunks that are copied if ids follow: all but the last.
 #[derive(Clone, Copy)]
-pub(crate) struct Front<'a> {
-    // The counts of the set, and what is after these.
-    ids: usize,
-    chunks: usize,
-    rest: &'a [u8],
-    ghost few: { chunks ≤ 65536 },
-    ghost most: { ids ≤ 2 ^ 28 },
-    ghost are_bytes: { AreBytes rest.now },
-    ghost sound: { IsRest ids chunks rest.now } by { Prim.hlevel (props, rising_prop) },
+pub struct Front<'a> {
+    pub(crate) directory: Directory<'a>,
 }
 
 impl<'a> Front<'a> {
     ghost use Rattle.std.specs.Prelude.{◌+◌, ◌-◌, ◌*◌, ◌<◌, ◌++◌, length};
     ghost use Rattle.std.specs.List.{concat};
     ghost use Rattle.bitpack_sets.specs.Fronts.{IsNext, front_ids};
-    ghost use Rattle.bitpack_sets.specs.Sets.{IsSet, parts};
+    ghost use Rattle.bitpack_slices.specs.Bodies.{parts};
+    ghost use Rattle.bitpack_sets.specs.Sets.{IsSet};
     ghost use Rattle.bitpack_sets.specs.Varints as varints;
     ghost use Rattle.bitpack_sets.specs.Sets.{in_chunks};
     ghost use Rattle.bitpack_sets.specs.Written.{bodies, directory, ends_encoding, keys_encoding, sums_encoding};
 
-    /// The chunks of a set with these counts, and these bytes after them.
-    pub(crate) fn new(ids: usize, chunks: usize, rest: &'a [u8]) -> Front<'a>
-        requires few { chunks ≤ 65536 }
-        requires most { ids ≤ 2 ^ 28 }
-        requires rest { IsRest ids chunks rest.now }
-        ensures chunks { result.chunks ≡ chunks }
-        ensures rest { result.rest.now ≡ rest.now }
-    {
-        Front { ids, chunks, rest }
-    }
-
     /// How many chunks are copied.
     fn count(&self) -> usize
         ensures count { result ≡ length (parts 65536 (front_ids self.now)) }
-        ensures chunks { result ≡ self.now.chunks - 1 }
+        ensures chunks { result ≡ self.now.directory.chunks - 1 }
     {
-        self.chunks - 1
+        self.directory.chunks - 1
     }
 
     /// How many ids the copied chunks have.
@@ -58,7 +39,11 @@ impl<'a> Front<'a> {
         ensures len { result ≡ length (front_ids self.now) }
         ensures few { result ≤ 2 ^ 28 }
     {
-        count_before(self.chunks, self.rest, self.chunks - 1) as usize
+        count_before(
+            self.directory.chunks,
+            self.directory.rest,
+            self.directory.chunks - 1,
+        ) as usize
     }
 
     /// How many bytes the bodies of the copied chunks have.
@@ -66,7 +51,11 @@ impl<'a> Front<'a> {
         ensures size { result ≡ length (concat (bodies (front_ids self.now))) }
         ensures few { result ≤ 2 ^ 29 }
     {
-        begin_at(self.chunks, self.rest, self.chunks - 1) as usize
+        begin_at(
+            self.directory.chunks,
+            self.directory.rest,
+            self.directory.chunks - 1,
+        ) as usize
     }
 
     /// Writes the ends of the bodies of the copied chunks, each of `size` bytes.
@@ -74,8 +63,13 @@ impl<'a> Front<'a> {
         requires { length out.old ≡ length (ends_encoding size 0 (front_ids self.now)) }
         ensures { out.new ≡ ends_encoding size 0 (front_ids self.now) }
     {
-        for chunk in 0..self.chunks - 1 {
-            write_at(chunk, size, end_at(self.chunks, self.rest, chunk), out);
+        for chunk in 0..self.directory.chunks - 1 {
+            write_at(
+                chunk,
+                size,
+                end_at(self.directory.chunks, self.directory.rest, chunk),
+                out,
+            );
         }
     }
 
@@ -84,8 +78,13 @@ impl<'a> Front<'a> {
         requires { length out.old ≡ length (sums_encoding size 0 (front_ids self.now)) }
         ensures { out.new ≡ sums_encoding size 0 (front_ids self.now) }
     {
-        for chunk in 0..self.chunks - 1 {
-            write_at(chunk, size, sum_at(self.chunks, self.rest, chunk), out);
+        for chunk in 0..self.directory.chunks - 1 {
+            write_at(
+                chunk,
+                size,
+                sum_at(self.directory.chunks, self.directory.rest, chunk),
+                out,
+            );
         }
     }
 
@@ -110,11 +109,11 @@ impl<'a> Front<'a> {
     {
         let count = self.count();
         let size = self.size();
-        let start = bodies_start(self.chunks, self.rest);
-        keys.copy_from_slice(&self.rest[1..1 + 2 * count]);
+        let start = bodies_start(self.directory.chunks, self.directory.rest);
+        keys.copy_from_slice(&self.directory.rest[1..1 + 2 * count]);
         self.copy_ends(end_size, ends);
         self.copy_sums(sum_size, sums);
-        out.copy_from_slice(&self.rest[start..start + size]);
+        out.copy_from_slice(&self.directory.rest[start..start + size]);
     }
 
     /// The number of chunks of these and of ids after them, and of the bytes of their bodies.
@@ -215,5 +214,23 @@ impl<'a> Front<'a> {
         let (head, rest) = out.split_at_mut(len);
         write_head(count, chunks, end_size, sum_size, head);
         self.write_directory(ids, chunks, end_size, sum_size, rest);
+    }
+}
+
+impl<'a> IdSet<'a> {
+    ghost use Rattle.std.specs.Prelude.{false, IfSome, IsNone};
+    ghost use Rattle.bitpack_sets.specs.Fronts.{IsFront, front_ids};
+    ghost use Rattle.bitpack_sets.specs.Opened.{ids};
+    ghost use Rattle.bitpack_sets.specs.Written.{is_in_chunks};
+
+    /// The chunks that are copied if ids follow. It is `None` if the set is not in chunks.
+    pub(crate) fn front(&self) -> Option<Front<'a>>
+        ensures front { IfSome result (λ front. IsFront (front_ids front) (ids self.now)) }
+        ensures none { IsNone result → is_in_chunks (ids self.now) ≡ false }
+    {
+        match self.form() {
+            Form::Chunks(directory) => Some(Front { directory }),
+            _ => None,
+        }
     }
 }

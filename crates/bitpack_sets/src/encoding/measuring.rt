@@ -3,11 +3,12 @@
 
 ghost use Rattle.std.specs.Prelude.{◌≡◌, ℕ, List, ◌*◌, ◌<◌, ◌≤◌, length};
 ghost use Rattle.std.specs.List.{concat};
-ghost use Rattle.bitpack_sets.specs.Sets.{IsSet, body, parts};
+ghost use Rattle.bitpack_slices.specs.Bodies.{parts};
+ghost use Rattle.bitpack_sets.specs.Sets.{IsSet, body};
 ghost use Rattle.bitpack_sets.specs.Written.{IsChunk, bodies, capped, lows, slices};
 
 use crate::encoding::runs::{CHUNK_BITS, run_len};
-use crate::slice::byte_len;
+use bitpack_slices::slice::byte_len;
 
 /// How many chunks a set has.
 ///

@@ -1,15 +1,15 @@
 //! Which ids a writer refuses.
 
 ghost use Rattle.std.specs.Prelude.{◌≡◌, false, ℕ, ◌+◌, ◌-◌, ◌^◌, ◌<◌, ◌≤◌, ◌++◌, List, IfSome, OnOk, length, slice_index};
-ghost use Rattle.bitpack_sets.specs.Errors.{Finds};
+ghost use Rattle.bitpack_slices.specs.Errors.{Finds};
 ghost use Rattle.bitpack_sets.specs.Sets.{IsSet};
-ghost use Rattle.bitpack_sets.specs.Slices.{first_fall};
+ghost use Rattle.bitpack_slices.specs.Slices.{first_fall};
 ghost use Rattle.bitpack_sets.specs.Written.{EndsWith, refusal};
 
-use crate::set_error::SetError;
+use bitpack_slices::SetError;
 
 /// The most ids of a set.
-pub(crate) const LONGEST_SET: usize = 1 << 28;
+pub const LONGEST_SET: usize = 1 << 28;
 
 /// Tests that ids are a set: not too many, and each above the one before it.
 pub(crate) fn test_ids(ids: &[u32]) -> Result<(), SetError>

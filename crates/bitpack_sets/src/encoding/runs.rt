@@ -1,7 +1,7 @@
 //! Ids that follow each other in one chunk, or in one slice.
 
 ghost use Rattle.std.specs.Prelude.{◌≡◌, ◌+◌, ◌^◌, ◌<◌, length};
-ghost use Rattle.bitpack_sets.specs.Sets.{IsRising};
+ghost use Rattle.bitpack_slices.specs.Bodies.{IsRising};
 ghost use Rattle.bitpack_sets.specs.Written.{IsRun};
 
 /// Ids are in one chunk if they are the same without their 16 lowest bits.

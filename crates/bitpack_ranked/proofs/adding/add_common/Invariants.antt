@@ -2,7 +2,7 @@
 use Rattle.std.proofs.Common.{◌≡◌, ℕ, ◌+◌, ◌^◌, ◌<◌, ◌≤◌, drop}
 use Rattle.std.specs.Prelude.{slice_index}
 use Rattle.std.specs.List.{filter}
-use Rattle.bitpack_sets.specs.Reads.{has}
+use Rattle.bitpack_slices.specs.Reads.{has}
 use Rattle.bitpack_ranked.specs.Ranked.{part_in}
 use Rattle.bitpack_ranked.proofs.adding.add_common.Given as goal
 

@@ -1,6 +1,6 @@
 -- The documents are between the blocks of the first and the last.
 use Rattle.std.proofs.Common.{◌-◌, get_or, length, ap, ◌∙◌, arith}
-use Rattle.bitpack_sets.specs.Reads.{rank}
+use Rattle.bitpack_slices.specs.Reads.{rank}
 use Rattle.bitpack_ranked.proofs.AddSteps.{between}
 use Rattle.bitpack_ranked.proofs.adding.add_word.Goals as goal
 

@@ -4,7 +4,7 @@ use Rattle.std.specs.Option.{unwrap_or}
 use Rattle.std.proofs.lemmas.Bool.{ltb-true}
 use Rattle.std.proofs.lemmas.Option.{unwrap_or-slice_get}
 use Rattle.bitpack_columns.specs.Opened.{values}
-use Rattle.bitpack_sets.specs.Reads.{rank}
+use Rattle.bitpack_slices.specs.Reads.{rank}
 use Rattle.bitpack_ranked.specs.Ranked.{has_word, position_of}
 use Rattle.bitpack_ranked.specs.Scores.{part_at}
 use Rattle.bitpack_ranked.proofs.PositionLemmas.{rank_position}

@@ -3,7 +3,7 @@ use Rattle.std.proofs.Common.{◌≡◌, ◌+◌, ◌-◌, ◌*◌, ◌<◌, ◌
 use Rattle.std.specs.Prelude.{◌||◌}
 use Rattle.std.proofs.lemmas.Bool.{cases_lt}
 use Rattle.std.proofs.lemmas.List.{take_all}
-use Rattle.bitpack_sets.specs.Reads.{has}
+use Rattle.bitpack_slices.specs.Reads.{has}
 use Rattle.bitpack_ranked.specs.Ranked.{AreBest, IsScored}
 use Rattle.bitpack_ranked.proofs.AddSteps.{lesser}
 use Rattle.bitpack_ranked.proofs.ManySteps.{no_fall-increasing, none_of_all, some_fresh, some_increasing, some_more}

@@ -1,6 +1,6 @@
 -- The documents of the blocks so far are done.
 use Rattle.std.proofs.Common.{◌*◌, ◌≤◌, length, map, take}
-use Rattle.bitpack_sets.specs.Reads.{has}
+use Rattle.bitpack_slices.specs.Reads.{has}
 use Rattle.bitpack_ranked.specs.Ranked.{AreBest, IsScored}
 use Rattle.bitpack_ranked.proofs.among.pass_all.Given as goal
 

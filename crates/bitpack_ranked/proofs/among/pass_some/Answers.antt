@@ -1,7 +1,7 @@
 -- The documents are candidates, unless a bound tells that they are not among the best.
 use Rattle.std.proofs.Common.{ℕ, Bool, [], get_or, length, map, refl, take, arith}
 use Rattle.std.proofs.lemmas.Simd.{get_or-replicate}
-use Rattle.bitpack_sets.specs.Reads.{has}
+use Rattle.bitpack_slices.specs.Reads.{has}
 use Rattle.bitpack_ranked.specs.inner.Candidates.{IsBeaten}
 use Rattle.bitpack_ranked.proofs.CandidateSteps.{given, given_rise, its_id, some_left}
 use Rattle.bitpack_ranked.proofs.among.pass_some.Goals as goal

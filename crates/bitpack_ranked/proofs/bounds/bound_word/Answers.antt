@@ -3,7 +3,7 @@ use Rattle.std.proofs.Common.{◌+◌, ◌-◌, ◌/◌, ◌<◌, ◌≤◌, get
 use Rattle.std.proofs.lemmas.Bool.{cases_eq}
 use Rattle.std.proofs.lemmas.List.{get_or-set_other, get_or-set_same}
 use Rattle.std.proofs.lemmas.Option.{IfSome_then}
-use Rattle.bitpack_sets.specs.Reads.{rank}
+use Rattle.bitpack_slices.specs.Reads.{rank}
 use Rattle.bitpack_ranked.specs.Ranked.{part_in}
 use Rattle.bitpack_ranked.proofs.AddSteps.{between, part_within}
 use Rattle.bitpack_ranked.proofs.RankLaws.{rank-le}

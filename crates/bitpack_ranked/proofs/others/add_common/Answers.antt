@@ -2,7 +2,7 @@
 use Rattle.std.proofs.Common.{◌+◌, ◌<◌, get_or, length, inl, inr, arith}
 use Rattle.std.proofs.lemmas.Bool.{cases_eq}
 use Rattle.std.proofs.lemmas.List.{get_or-set_other, get_or-set_same}
-use Rattle.bitpack_sets.specs.Reads.{has}
+use Rattle.bitpack_slices.specs.Reads.{has}
 use Rattle.bitpack_ranked.proofs.MatchSteps.{one_more}
 use Rattle.bitpack_ranked.proofs.others.add_common.Goals as goal
 

@@ -2,7 +2,7 @@
 use Rattle.std.proofs.Common.{◌≡◌, ℕ, ◌+◌, ◌<◌, ◌≤◌, cond, List, drop}
 use Rattle.std.specs.Prelude.{slice_index}
 use Rattle.std.specs.List.{filter}
-use Rattle.bitpack_sets.specs.Reads.{has}
+use Rattle.bitpack_slices.specs.Reads.{has}
 use Rattle.bitpack_ranked.proofs.others.add_common.Given as goal
 
 abbrev pub invariant-loop-index : goal.invariant-loop-index

@@ -1,6 +1,6 @@
 -- A document has the word exactly if the set has its id.
 use Rattle.std.proofs.Common.{◌≡◌, false, true, refl, sym, ap, ◌∙◌}
-use Rattle.bitpack_sets.specs.Reads.{has}
+use Rattle.bitpack_slices.specs.Reads.{has}
 use Rattle.bitpack_ranked.specs.Ranked.{has_word}
 use Rattle.bitpack_ranked.proofs.PositionLemmas.{has_position}
 use Rattle.bitpack_ranked.proofs.words.count_word.Goals as goal

@@ -1,7 +1,7 @@
 -- The vector without items has the room that it had.
 use Rattle.std.proofs.Common.{◌++◌, ℕ, ap, length, subst, sym, vec_capacity}
 use Rattle.std.specs.Option.{is_some}
-use Rattle.bitpack_sets.proofs.EncodeLaws.{all_if_no_chunks}
+use Rattle.bitpack_sets.proofs.lemmas.encodings.EncodeLaws.{all_if_no_chunks}
 use Rattle.bitpack_sets.proofs.appending.append.Goals as goal
 use Rattle.bitpack_sets.specs.Opened.{ids}
 use Rattle.bitpack_sets.specs.Written.{AppendsWith, unpacked}

@@ -1,12 +1,13 @@
 -- The ids after the copied chunks are a set, and all of them are the ids.
 use Rattle.std.proofs.Common.{rules, ◌≡◌, ◌++◌, [], ℕ, List, arith, ap, drop, length, subst, sym, ◌∙◌, length-append}
-use Rattle.bitpack_sets.proofs.EncodeLaws.{accepted, all_if_array, appended, chunks_is, least_unpacked}
-use Rattle.bitpack_sets.proofs.FrontLaws.{all_ids, later_set}
-use Rattle.bitpack_sets.proofs.RefusalLaws.{none_refused}
+use Rattle.bitpack_sets.proofs.lemmas.encodings.EncodeLaws.{accepted, all_if_array, appended, chunks_is, least_unpacked}
+use Rattle.bitpack_sets.proofs.lemmas.written.FrontLaws.{all_ids, later_set}
+use Rattle.bitpack_sets.proofs.lemmas.faults.RefusalLaws.{set_not_refused}
 use Rattle.bitpack_sets.proofs.appending.append_after.Goals as goal
 use Rattle.bitpack_sets.specs.Fronts.{front_ids}
 use Rattle.bitpack_sets.specs.Opened.{ids}
-use Rattle.bitpack_sets.specs.Sets.{IsSet, encoding, in_chunks, parts}
+use Rattle.bitpack_slices.specs.Bodies.{parts}
+use Rattle.bitpack_sets.specs.Sets.{IsSet, encoding, in_chunks}
 
 later : (room items part ids more : List ℕ) (from from' : ℕ) → part ≡ items → items ≡ room ++ (drop from ids ++ more) → room ≡ [] → from ≡ from' → part ≡ drop from' ids ++ more
 later room items part ids more from from' e f g h = e ∙ f ∙ ap (λ (l : List ℕ). l ++ (drop from ids ++ more)) g ∙ ap (λ (n : ℕ). drop n ids ++ more) h
@@ -26,7 +27,7 @@ pub returns-in_err-unpack_with : goal.returns-in_err-unpack_with
 returns-in_err-unpack_with c = record {
   set = search rules;
   ok = search rules;
-  fault = accepted _ _ (none_refused _ c.requires.set.few c.requires.set.rising) (search rules);
+  fault = accepted _ _ (set_not_refused _ c.requires.set.few c.requires.set.rising) (search rules);
   room = λ none few. let least = least_unpacked (front_ids c.args.front.now) (ids c.args.set.now) c.args.more.now c.requires.front in
       absurd (omega (arith, few, least, c.in_err-unpack_with.ensures.room, c.len.ensures.len, ap length c.requires.room, c.args.room.now.ok));
   unchanged = search rules;

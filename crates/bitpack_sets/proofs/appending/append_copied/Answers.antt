@@ -1,6 +1,6 @@
 -- The room is that of the encoding.
 use Rattle.std.proofs.Common.{sym, arith, rules, ◌∙◌}
-use Rattle.bitpack_sets.proofs.EncodeLaws.{chunks_len_is, on_err}
+use Rattle.bitpack_sets.proofs.lemmas.encodings.EncodeLaws.{chunks_len_is, on_err}
 use Rattle.bitpack_sets.proofs.appending.append_copied.Goals as goal
 use Rattle.bitpack_sets.specs.Fronts.{front_ids}
 

@@ -2,7 +2,7 @@
 use Rattle.std.proofs.Common.{◌≡◌, ◌++◌, ◌-◌, ℕ, List, drop, length, min, replicate, take, ap, sym, ◌∙◌, arith, length-append, length-drop}
 use Rattle.std.proofs.Math.Nat.{min-le_left}
 use Rattle.std.proofs.lemmas.List.{length-replicate, take_all}
-use Rattle.bitpack_sets.proofs.EncodeLaws.{written_over}
+use Rattle.bitpack_sets.proofs.lemmas.encodings.EncodeLaws.{written_over}
 use Rattle.bitpack_sets.proofs.appending.append_range.Goals as goal
 use Rattle.bitpack_sets.specs.Opened.{ids}
 

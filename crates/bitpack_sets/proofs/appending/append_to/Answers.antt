@@ -1,7 +1,7 @@
 -- A set that is not in chunks is unpacked.
 use Rattle.std.proofs.Common.{◌++◌, ℕ, ap, length, subst, sym}
 use Rattle.std.specs.Option.{is_some}
-use Rattle.bitpack_sets.proofs.EncodeLaws.{all_if_no_chunks}
+use Rattle.bitpack_sets.proofs.lemmas.encodings.EncodeLaws.{all_if_no_chunks}
 use Rattle.bitpack_sets.proofs.appending.append_to.Goals as goal
 use Rattle.bitpack_sets.specs.Opened.{ids}
 use Rattle.bitpack_sets.specs.Written.{WritesWith}

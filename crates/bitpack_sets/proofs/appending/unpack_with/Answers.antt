@@ -1,6 +1,6 @@
 -- The room that is reserved is enough for all.
 use Rattle.std.proofs.Common.{◌≡◌, ◌+◌, ◌-◌, ap, arith, drop, length, length-append, length-drop, sym, vec_len, ◌∙◌}
-use Rattle.bitpack_sets.proofs.EncodeLaws.{on_ok}
+use Rattle.bitpack_sets.proofs.lemmas.encodings.EncodeLaws.{on_ok}
 use Rattle.bitpack_sets.proofs.appending.unpack_with.Goals as goal
 use Rattle.bitpack_sets.specs.Opened.{ids}
 

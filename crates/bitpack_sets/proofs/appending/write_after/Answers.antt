@@ -1,12 +1,13 @@
 -- The ids after the copied chunks are a set, and all of them are the ids.
 use Rattle.std.proofs.Common.{◌≡◌, ◌++◌, ℕ, List, arith, rules, ap, drop, length, take, subst, sym, ◌∙◌, length-append}
-use Rattle.bitpack_sets.proofs.EncodeLaws.{accepted, all_if_array, any_ok, chunks_is, least_unpacked}
-use Rattle.bitpack_sets.proofs.FrontLaws.{all_ids, later_set}
-use Rattle.bitpack_sets.proofs.RefusalLaws.{none_refused}
+use Rattle.bitpack_sets.proofs.lemmas.encodings.EncodeLaws.{accepted, all_if_array, any_ok, chunks_is, least_unpacked}
+use Rattle.bitpack_sets.proofs.lemmas.written.FrontLaws.{all_ids, later_set}
+use Rattle.bitpack_sets.proofs.lemmas.faults.RefusalLaws.{set_not_refused}
 use Rattle.bitpack_sets.proofs.appending.write_after.Goals as goal
 use Rattle.bitpack_sets.specs.Fronts.{front_ids}
 use Rattle.bitpack_sets.specs.Opened.{ids}
-use Rattle.bitpack_sets.specs.Sets.{IsSet, encoding, in_chunks, parts}
+use Rattle.bitpack_slices.specs.Bodies.{parts}
+use Rattle.bitpack_sets.specs.Sets.{IsSet, encoding, in_chunks}
 use Rattle.bitpack_sets.specs.Written.{WritesBytes}
 
 later : (part ids more : List ℕ) (from from' : ℕ) → part ≡ drop from ids ++ more → from ≡ from' → part ≡ drop from' ids ++ more
@@ -17,7 +18,7 @@ returns-in_err-count c = record {
   set = search rules;
   len = search rules;
   ok = search rules;
-  fault = accepted _ _ (none_refused _ c.requires.set.few c.requires.set.rising) (search rules);
+  fault = accepted _ _ (set_not_refused _ c.requires.set.few c.requires.set.rising) (search rules);
   room = λ none few. let least = least_unpacked (front_ids c.args.front.now) (ids c.args.set.now) c.args.more.now c.requires.front in
       absurd (omega (arith, few, least, c.in_err-count.ensures.room, c.len.ensures.len));
   unchanged = search rules;
@@ -75,7 +76,7 @@ returns c =
       set = any_ok c.write_copied.result c.requires.set;
       len = w.len;
       ok = w.ok;
-      fault = accepted all _ (none_refused all c.requires.set.few c.requires.set.rising) w.short;
+      fault = accepted all _ (set_not_refused all c.requires.set.few c.requires.set.rising) w.short;
       room = λ none few. w.room;
       unchanged = w.unchanged;
     }

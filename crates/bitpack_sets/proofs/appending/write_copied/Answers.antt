@@ -1,7 +1,7 @@
 -- The bytes are as many as the encoding has.
 use Rattle.std.proofs.Common.{◌≡◌, ◌++◌, ℕ, List, drop, length, ap, arith, rules, ◌∙◌}
 use Rattle.std.proofs.lemmas.List.{length-take-le}
-use Rattle.bitpack_sets.proofs.EncodeLaws.{chunks_len_is}
+use Rattle.bitpack_sets.proofs.lemmas.encodings.EncodeLaws.{chunks_len_is}
 use Rattle.bitpack_sets.proofs.appending.write_copied.Goals as goal
 use Rattle.bitpack_sets.specs.Fronts.{front_ids}
 use Rattle.bitpack_sets.specs.Sets.{in_chunks}

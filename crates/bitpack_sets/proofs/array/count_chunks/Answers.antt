@@ -1,9 +1,9 @@
 -- One id more.
 use Rattle.std.proofs.Common.{◌≡◌, ◌≢◌, ◌+◌, ◌/◌, ◌-◌, ◌≤◌, ◌<◌, ℕ, List, arith, get_or, length, subst, sym, inl, inr, ◌∙◌, ap}
 use Rattle.std.proofs.lemmas.Bool.Decides.{eqb_tells}
-use Rattle.bitpack_sets.specs.Slices.{quads_of}
-use Rattle.bitpack_sets.proofs.FallLaws.{Counted, counted_done, counted_other, counted_same, counted_start}
-use Rattle.bitpack_sets.proofs.NumberReads.{quads_len}
+use Rattle.bitpack_slices.specs.Slices.{quads_of}
+use Rattle.bitpack_sets.proofs.lemmas.written.FallLaws.{Counted, counted_done, counted_other, counted_same, counted_start}
+use Rattle.bitpack_slices.proofs.ForCallers.{quads_len}
 use Rattle.bitpack_sets.proofs.array.count_chunks.Goals as goal
 
 pub loop-position-init : goal.loop-position-init

@@ -1,8 +1,7 @@
 -- One number more.
 use Rattle.std.proofs.Common.{◌≡◌, ◌+◌, ℕ, List, Some, ap, arith, ◌∙◌, sym}
-use Rattle.bitpack_sets.specs.Slices.{quads_of}
-use Rattle.bitpack_sets.proofs.FallLaws.{fall_here, fall_later, fall_none, fall_start}
-use Rattle.bitpack_sets.proofs.NumberReads.{quads_len}
+use Rattle.bitpack_slices.specs.Slices.{quads_of}
+use Rattle.bitpack_slices.proofs.ForCallers.{fall_here, fall_later, fall_none, fall_start, quads_len}
 use Rattle.bitpack_sets.proofs.array.first_fall.Goals as goal
 
 pub loop-position-init : goal.loop-position-init

@@ -1,6 +1,6 @@
 -- None falls before the index.
 use Rattle.std.proofs.Common.{◌≡◌, ◌+◌, ◌-◌, drop}
-use Rattle.bitpack_sets.specs.Slices.{first_fall, quads_of}
+use Rattle.bitpack_slices.specs.Slices.{first_fall, quads_of}
 use Rattle.bitpack_sets.proofs.array.first_fall.Given as goal
 
 abbrev pub invariant-loop-position : goal.invariant-loop-position

@@ -1,9 +1,8 @@
 -- What is at its position tells a number.
 use Rattle.std.proofs.Common.{◌∙◌, ◌^◌, ap, sym, arith, ℕ, eqb}
-use Rattle.bitpack_sets.proofs.HalfLaws.{has_at_rank, has_not}
-use Rattle.bitpack_sets.proofs.NumberReads.{quads_len}
+use Rattle.bitpack_slices.proofs.ForCallers.{has_at_rank, has_not, quads_len}
 use Rattle.bitpack_sets.proofs.array.in_array.Goals as goal
-use Rattle.bitpack_sets.specs.Slices.{quads_of}
+use Rattle.bitpack_slices.specs.Slices.{quads_of}
 
 pub returns-then-position-rest : goal.returns-then-position-rest
 returns-then-position-rest c =

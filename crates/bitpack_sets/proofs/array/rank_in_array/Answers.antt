@@ -1,10 +1,8 @@
 -- The middle one tells which half has the rank.
 use Rattle.std.proofs.Common.{◌+◌, ◌/◌, ◌^◌, arith}
-use Rattle.bitpack_sets.proofs.HalfLaws.{rank_above, rank_under}
-use Rattle.bitpack_sets.proofs.NumberReads.{quads_len}
-use Rattle.bitpack_sets.proofs.ReadLaws.{rank_le}
+use Rattle.bitpack_slices.proofs.ForCallers.{quads_len, rank_above, rank_le, rank_under}
 use Rattle.bitpack_sets.proofs.array.rank_in_array.Goals as goal
-use Rattle.bitpack_sets.specs.Slices.{quads_of}
+use Rattle.bitpack_slices.specs.Slices.{quads_of}
 
 pub loop-left-init : goal.loop-left-init
 loop-left-init c =

@@ -1,8 +1,8 @@
 -- The rank is among those that are left.
 use Rattle.std.proofs.Common.{◌≤◌, ◌+◌, ◌/◌, length}
 use Rattle.bitpack_sets.proofs.array.rank_in_array.Given as goal
-use Rattle.bitpack_sets.specs.Reads.{rank}
-use Rattle.bitpack_sets.specs.Slices.{quads_of}
+use Rattle.bitpack_slices.specs.Reads.{rank}
+use Rattle.bitpack_slices.specs.Slices.{quads_of}
 
 abbrev pub invariant-loop-left : goal.invariant-loop-left
 invariant-loop-left l = record {

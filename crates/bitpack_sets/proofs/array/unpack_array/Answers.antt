@@ -1,8 +1,8 @@
 -- One id more is written.
 use Rattle.std.proofs.Common.{◌≡◌, ◌+◌, ◌<◌, ◌++◌, ◌∷◌, [], ℕ, List, arith, ap, get_or, length, refl, set, sym, take, length-set, ◌∙◌}
 use Rattle.std.proofs.lemmas.List.{take_all, take_more, take_more_set}
-use Rattle.bitpack_sets.specs.Slices.{quads_of}
-use Rattle.bitpack_sets.proofs.NumberReads.{quads_len}
+use Rattle.bitpack_slices.specs.Slices.{quads_of}
+use Rattle.bitpack_slices.proofs.ForCallers.{quads_len}
 use Rattle.bitpack_sets.proofs.array.unpack_array.Goals as goal
 
 more : (out xs : List ℕ) (i v : ℕ) → i < length out → i < length xs → v ≡ get_or xs i 0 → take i out ≡ take i xs → take (i + 1) (set out i v) ≡ take (i + 1) xs

@@ -1,6 +1,6 @@
 -- The ids so far are written.
 use Rattle.std.proofs.Common.{◌≡◌, length, take}
-use Rattle.bitpack_sets.specs.Slices.{quads_of}
+use Rattle.bitpack_slices.specs.Slices.{quads_of}
 use Rattle.bitpack_sets.proofs.array.unpack_array.Given as goal
 
 abbrev pub invariant-loop-position : goal.invariant-loop-position

@@ -1,7 +1,7 @@
 -- One chunk more.
 use Rattle.std.proofs.lemmas.Result.{err_from_is_err_and}
 use Rattle.bitpack_sets.specs.Faults.{entry_fault}
-use Rattle.bitpack_sets.proofs.EntryLaws.{first_found, first_more, first_start}
+use Rattle.bitpack_sets.proofs.lemmas.faults.EntryLaws.{first_found, first_more, first_start}
 use Rattle.bitpack_sets.proofs.directory.test_entries.Goals as goal
 
 pub loop-chunk-init : goal.loop-chunk-init

@@ -1,7 +1,7 @@
 -- The zeros in the room that is reserved become the encoding.
 use Rattle.std.proofs.Common.{◌≡◌, ◌++◌, ℕ, List, length, replicate, ap, sym, ◌∙◌, arith, rules}
 use Rattle.std.proofs.lemmas.List.{length-replicate}
-use Rattle.bitpack_sets.proofs.EncodeLaws.{on_err, written_over}
+use Rattle.bitpack_sets.proofs.lemmas.encodings.EncodeLaws.{on_err, written_over}
 use Rattle.bitpack_sets.proofs.encoding.append_set.Goals as goal
 
 pub returns-then-is_err : goal.returns-then-is_err

@@ -1,7 +1,7 @@
 -- The encoding is written if the slice has room for it.
 use Rattle.std.proofs.Common.{◌++◌, ℕ, List, drop, ap, ◌∙◌, arith, refl, rules}
 use Rattle.std.proofs.lemmas.List.{length-take-le}
-use Rattle.bitpack_sets.proofs.EncodeLaws.{accepted}
+use Rattle.bitpack_sets.proofs.lemmas.encodings.EncodeLaws.{accepted}
 use Rattle.bitpack_sets.proofs.encoding.encode_to.Goals as goal
 use Rattle.bitpack_sets.specs.Sets.{encoding}
 

@@ -1,6 +1,6 @@
 -- The ids are a set, whose encoding is measured.
 use Rattle.std.proofs.Common.{refl}
-use Rattle.bitpack_sets.proofs.EncodeLaws.{accepted}
+use Rattle.bitpack_sets.proofs.lemmas.encodings.EncodeLaws.{accepted}
 use Rattle.bitpack_sets.proofs.encoding.encoded_len.Goals as goal
 
 pub returns : goal.returns

@@ -1,5 +1,5 @@
 -- The measures of each form.
-use Rattle.bitpack_sets.proofs.EncodeLaws.{array_measured, chunks_measured, few_measured}
+use Rattle.bitpack_sets.proofs.lemmas.encodings.EncodeLaws.{array_measured, chunks_measured, few_measured}
 use Rattle.bitpack_sets.proofs.encoding.measure.Goals as goal
 
 pub returns-then-count-le-MOST_FEW : goal.returns-then-count-le-MOST_FEW

@@ -1,6 +1,6 @@
 -- The form says what is written.
 use Rattle.std.proofs.Common.{length, sym, ap, ◌∙◌, arith}
-use Rattle.bitpack_sets.proofs.EncodeLaws.{array_is, chunks_is, few_is}
+use Rattle.bitpack_sets.proofs.lemmas.encodings.EncodeLaws.{array_is, chunks_is, few_is}
 use Rattle.bitpack_sets.proofs.encoding.write_set.Goals as goal
 
 pub write_few-requires-clause-size : goal.write_few-requires-clause-size

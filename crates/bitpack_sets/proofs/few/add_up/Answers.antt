@@ -1,6 +1,6 @@
 -- One id more.
 use Rattle.std.proofs.Common.{arith, refl, sym, length-set, ◌∙◌}
-use Rattle.bitpack_sets.proofs.GapLaws.{ids_done, ids_first, ids_next, over_next, over_small}
+use Rattle.bitpack_sets.proofs.lemmas.faults.GapLaws.{ids_done, ids_first, ids_next, over_next, over_small}
 use Rattle.bitpack_sets.proofs.few.add_up.Goals as goal
 
 pub overflow_add-id : goal.overflow_add-id

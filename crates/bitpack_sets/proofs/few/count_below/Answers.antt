@@ -1,6 +1,6 @@
 -- One id more is counted.
 use Rattle.std.proofs.Common.{arith, get_or, ltb}
-use Rattle.bitpack_sets.proofs.ReadLaws.{rank_done, rank_drop, byte_is, bit_le}
+use Rattle.bitpack_slices.proofs.ForCallers.{rank_done, rank_drop, byte_is, bit_le}
 use Rattle.bitpack_sets.proofs.few.count_below.Goals as goal
 
 pub loop-other-preserved : goal.loop-other-preserved

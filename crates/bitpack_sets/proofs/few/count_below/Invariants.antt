@@ -1,7 +1,7 @@
 -- The ids so far are counted.
 use Rattle.std.proofs.Common.{◌≡◌, ◌+◌, ◌≤◌, drop}
 use Rattle.bitpack_sets.proofs.few.count_below.Given as goal
-use Rattle.bitpack_sets.specs.Reads.{rank}
+use Rattle.bitpack_slices.specs.Reads.{rank}
 
 abbrev pub invariant-loop-other : goal.invariant-loop-other
 invariant-loop-other l = record {

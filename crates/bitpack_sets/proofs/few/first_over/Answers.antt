@@ -1,6 +1,6 @@
 -- One id more.
 use Rattle.std.proofs.Common.{◌+◌, arith, refl, sym, ◌∙◌}
-use Rattle.bitpack_sets.proofs.GapLaws.{over_done, over_found, over_next}
+use Rattle.bitpack_sets.proofs.lemmas.faults.GapLaws.{over_done, over_found, over_next}
 use Rattle.bitpack_sets.proofs.few.first_over.Goals as goal
 
 pub loop-index-preserved : goal.loop-index-preserved

@@ -1,6 +1,6 @@
 -- An id that is another is passed.
 use Rattle.std.proofs.Common.{◌∙◌, sym}
-use Rattle.bitpack_sets.proofs.ReadLaws.{has_done, has_here, has_next}
+use Rattle.bitpack_slices.proofs.ForCallers.{has_done, has_here, has_next}
 use Rattle.bitpack_sets.proofs.few.is_member.Goals as goal
 
 pub loop-other-preserved : goal.loop-other-preserved

@@ -1,6 +1,6 @@
 -- No id, or one and others.
 use Rattle.std.proofs.Common.{◌≡◌, ◌-◌, suc, ℕ, arith, subst, sym}
-use Rattle.bitpack_sets.specs.Errors.{Finds}
+use Rattle.bitpack_slices.specs.Errors.{Finds}
 use Rattle.bitpack_sets.specs.Faults.{short_fault}
 use Rattle.bitpack_sets.proofs.few.test_few.Goals as goal
 

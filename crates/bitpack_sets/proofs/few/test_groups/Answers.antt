@@ -5,7 +5,7 @@ use Rattle.std.proofs.lemmas.Result.{err_from_is_err_and}
 use Rattle.bitpack_groups.specs.Groups.{group_end}
 use Rattle.bitpack_groups.proofs.ForCallers.{after-next, codes_step, no_groups-after, no_groups-codes, no_groups-fault}
 use Rattle.bitpack_sets.specs.Varints.{after_groups, groups_fault, groups_of, of}
-use Rattle.bitpack_sets.proofs.GapLaws.{of_here, of_later}
+use Rattle.bitpack_sets.proofs.lemmas.faults.GapLaws.{of_here, of_later}
 use Rattle.bitpack_sets.proofs.few.test_groups.Goals as goal
 
 count_is : (total long i count : ℕ) → long ≡ total → count ≡ min 32 (long - 32 * i) → count ≡ min 32 (total - 32 * i)

@@ -3,7 +3,7 @@ use Rattle.std.proofs.Common.{◌≡◌, ◌-◌, ℕ, List, ap, drop, length, t
 use Rattle.std.proofs.lemmas.List.{take_rest}
 use Rattle.bitpack_sets.specs.Faults.{first_over, ids_from, short_ids}
 use Rattle.bitpack_sets.specs.Varints.{groups_codes, groups_fault, groups_of, number_end, number_value}
-use Rattle.bitpack_sets.proofs.GapLaws.{ids_at, some_at, sound_few}
+use Rattle.bitpack_sets.proofs.lemmas.faults.GapLaws.{ids_at, some_at, sound_few}
 use Rattle.bitpack_sets.proofs.few.unpack_some.Goals as goal
 
 pub unpack_number-first-requires : goal.unpack_number-first-requires

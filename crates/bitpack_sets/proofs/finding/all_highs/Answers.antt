@@ -1,7 +1,7 @@
 use Rattle.std.proofs.Common.{◌≡◌, ◌∙◌, ◌+◌, ◌++◌, ℕ, List, [], ◌∷◌, ap, sym, arith, take}
 use Rattle.std.specs.List.{range_with_len}
 use Rattle.std.proofs.lemmas.List.{length-set, take_all, take_more_set}
-use Rattle.bitpack_sets.proofs.BitmapLaws.{range_cat}
+use Rattle.bitpack_slices.proofs.ForCallers.{range_cat}
 use Rattle.bitpack_sets.proofs.finding.all_highs.Goals as goal
 
 pub loop-high-preserved : goal.loop-high-preserved

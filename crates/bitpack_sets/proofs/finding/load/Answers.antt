@@ -1,10 +1,9 @@
 -- The bitmap of all high bytes tells each id of the key.
 use Rattle.std.proofs.Common.{◌∙◌, ◌/◌, ◌%◌, ap, arith, subst, sym}
-use Rattle.bitpack_sets.proofs.CountLaws.{full_rise}
-use Rattle.bitpack_sets.proofs.ReadLaws.{has_all}
+use Rattle.bitpack_slices.proofs.ForCallers.{full_rise, has_all}
 use Rattle.bitpack_sets.proofs.finding.load.Goals as goal
-use Rattle.bitpack_sets.specs.Reads.{has}
-use Rattle.bitpack_sets.specs.Sets.{IsRising}
+use Rattle.bitpack_slices.specs.Reads.{has}
+use Rattle.bitpack_slices.specs.Bodies.{IsRising}
 
 pub load-requires-clause-highs : goal.load-requires-clause-highs
 load-requires-clause-highs c = subst (IsRising 0 256) (sym c.all_highs.ensures) full_rise

@@ -1,5 +1,5 @@
 -- The law of the longest encoding.
-use Rattle.bitpack_sets.proofs.RoomLaws.{longest_encoding}
+use Rattle.bitpack_sets.proofs.lemmas.encodings.RoomLaws.{longest_encoding}
 use Rattle.bitpack_sets.proofs.laws.longest_encoding.Goals as goal
 
 pub returns : goal.returns

@@ -3,7 +3,7 @@ use Rattle.std.proofs.Common.{◌≡◌, ◌-◌, ℕ, List, ap, arith, drop, le
 use Rattle.std.proofs.lemmas.List.{take_rest}
 use Rattle.bitpack_sets.specs.Stated.{after_count}
 use Rattle.bitpack_sets.specs.Varints.{number_end, number_fault}
-use Rattle.bitpack_sets.proofs.FormLaws.{five_number, low_form, low_number, some_bytes}
+use Rattle.bitpack_sets.proofs.lemmas.faults.FormLaws.{five_number, low_form, low_number, some_bytes}
 use Rattle.bitpack_sets.proofs.opening.read_parts.Goals as goal
 
 pub bounds-bytes-0 : goal.bounds-bytes-0

@@ -1,7 +1,7 @@
 -- What the sizes and the entries say when they have no fault.
 use Rattle.std.proofs.Common.{arith}
 use Rattle.bitpack_sets.specs.Faults.{entry_fault}
-use Rattle.bitpack_sets.proofs.EntryLaws.{entry_none, first_none, has_directory, sizes_none}
+use Rattle.bitpack_sets.proofs.lemmas.faults.EntryLaws.{entry_none, first_none, has_directory, sizes_none}
 use Rattle.bitpack_sets.proofs.opening.test_chunks.Goals as goal
 
 pub bodies_start-start-requires-clause-some : goal.bodies_start-start-requires-clause-some

@@ -1,5 +1,5 @@
 -- The worked sets, by computing.
-use Rattle.bitpack_sets.proofs.WorkedProofs.{worked_changes, worked_faults, worked_full, worked_long, worked_short}
+use Rattle.bitpack_sets.proofs.lemmas.words.WorkedProofs.{worked_changes, worked_faults, worked_full, worked_long, worked_short}
 use Rattle.bitpack_sets.proofs.worked_sets.worked_sets.Goals as goal
 
 pub returns : goal.returns

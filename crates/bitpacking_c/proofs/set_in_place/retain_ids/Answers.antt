@@ -3,7 +3,7 @@ use Rattle.std.proofs.Common.{◌≡◌, ◌∙◌, ℕ, List, length, pos, take
 use Rattle.std.specs.List.{filter}
 use Rattle.std.proofs.lemmas.List.{length-take-le}
 use Rattle.std.proofs.lemmas.Option.{none-some}
-use Rattle.bitpack_sets.specs.Retained.{retains}
+use Rattle.bitpack_queries.specs.Retained.{retains}
 use Rattle.bitpack_sets.specs.Reads.{ids_in}
 use Rattle.bitpacking_c.proofs.set_in_place.retain_ids.Goals as goal
 

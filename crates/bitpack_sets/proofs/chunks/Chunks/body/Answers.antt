@@ -1,15 +1,16 @@
 -- The ids between two positions are some of an array, or a chunk of numbers or blocks.
 use Rattle.std.proofs.Common.{◌≡◌, ◌∙◌, ◌+◌, ◌-◌, ◌/◌, ◌^◌, ◌<◌, ℕ, ap, arith, drop, get_or, refl, sym, subst, take}
 use Rattle.std.proofs.lemmas.List.{get_or-drop, get_or-take, length-take}
-use Rattle.bitpack_sets.proofs.KeyLaws.{AreOf, lows_in, lows_raised, of_raised, of_shared}
-use Rattle.bitpack_sets.proofs.ListLaws.{no_quads}
-use Rattle.bitpack_sets.proofs.PositionLaws.{between_array, between_chunk, between_none, blocks_body, numbers_body, positions_array, positions_chunks, quads_cut}
-use Rattle.bitpack_sets.proofs.RunLaws.{rising_front}
-use Rattle.bitpack_sets.proofs.WalkLaws.{rising_from}
+use Rattle.bitpack_slices.proofs.ForCallers.{AreOf, lows_in, rising_drop}
+use Rattle.bitpack_sets.proofs.lemmas.reads.KeyLaws.{lows_raised, of_raised, of_shared}
+use Rattle.bitpack_sets.proofs.lemmas.reads.HalfLaws.{no_quads}
+use Rattle.bitpack_sets.proofs.lemmas.reads.PositionLaws.{between_array, between_chunk, between_none, positions_array, positions_chunks, quads_cut}
+use Rattle.bitpack_sets.proofs.lemmas.written.RunLaws.{rising_front}
 use Rattle.bitpack_sets.proofs.chunks.Chunks.body.Goals as goal
 use Rattle.bitpack_sets.specs.Chunks.{lows_between}
-use Rattle.bitpack_sets.specs.Sets.{IsRising}
-use Rattle.bitpack_sets.specs.Slices.{pairs_of, quads_of}
+use Rattle.bitpack_slices.specs.Bodies.{IsRising}
+use Rattle.bitpack_slices.specs.Lows.{AreLows, lows}
+use Rattle.bitpack_slices.specs.Slices.{pairs_of, quads_of}
 
 pub ids-requires : goal.ids-requires
 ids-requires c = subst (IsRising 0 (2 ^ 32)) (sym no_quads) (omega arith)
@@ -31,7 +32,7 @@ ids-requires-then-self-eq0 c =
     let within = span.within in
     let cut = quads_cut c.args.position c.args.end set.rest.now span.later (omega arith) in
     subst (IsRising 0 (2 ^ 32)) (sym cut)
-    (rising_front 0 (2 ^ 32) (c.args.end - c.args.position) (drop c.args.position (quads_of set.rest.now)) (rising_from 0 (2 ^ 32) c.args.position (quads_of set.rest.now) (set.rising none)))
+    (rising_front 0 (2 ^ 32) (c.args.end - c.args.position) (drop c.args.position (quads_of set.rest.now)) (rising_drop 0 (2 ^ 32) c.args.position (quads_of set.rest.now) (set.rising none)))
 
 pub returns-then-self-eq0-clause-key : goal.returns-then-self-eq0-clause-key
 returns-then-self-eq0-clause-key c =
@@ -62,38 +63,38 @@ returns-then-self-eq0-clause-lows c =
     let cut = quads_cut c.args.position c.args.end set.rest.now span.later (omega arith) in
     ap lows_in (c.ids-then-self-eq0.ensures ∙ cut) ∙ sym (between_array set c.args.position c.args.end none)
 
-pub returns-then-is_numbers-clause-key : goal.returns-then-is_numbers-clause-key
-returns-then-is_numbers-clause-key c =
+pub lows-requires-clause-within : goal.lows-requires-clause-within
+lows-requires-clause-within c =
     let set = c.args.self.now in
     let all = positions_chunks set c.if-self-eq0.false in
     let at = c.if-position-end.false in
     let span = c.requires.span in
     let later = span.later in
     let within = span.within in
-    let body = c.body_of-body.result.now in
-    let is = numbers_body set c.args.position body c.body_of-body.ensures (sym c.is_numbers.ensures ∙ c.if-is_numbers.true) in
-    let rising = subst (IsRising 0 65536) (sym is) ((set.sound c.if-self-eq0.false).bodies c.args.position (omega arith)).rising in
-    subst (AreOf c.args.key) (sym c.numbers.ensures) (of_raised c.args.key 0 (pairs_of body) rising)
+    omega arith
 
-pub returns-then-is_numbers-clause-lows : goal.returns-then-is_numbers-clause-lows
-returns-then-is_numbers-clause-lows c =
-    let set = c.args.self.now in
-    let all = positions_chunks set c.if-self-eq0.false in
-    let at = c.if-position-end.false in
-    let span = c.requires.span in
-    let later = span.later in
-    let within = span.within in
-    let body = c.body_of-body.result.now in
-    let is = numbers_body set c.args.position body c.body_of-body.ensures (sym c.is_numbers.ensures ∙ c.if-is_numbers.true) in
-    let rising = subst (IsRising 0 65536) (sym is) ((set.sound c.if-self-eq0.false).bodies c.args.position (omega arith)).rising in
-    ap lows_in c.numbers.ensures ∙ lows_raised c.args.key 0 (pairs_of body) rising ∙ is ∙ sym (between_chunk set c.args.position c.args.end c.if-self-eq0.false at)
+pub numbers-requires : goal.numbers-requires
+numbers-requires c =
+    let key = c.requires.key in
+    record {
+      fits = omega arith;
+      rising = subst AreLows c.in-Numbers.is c.lows.ensures.are;
+    }
 
-pub returns-else-is_numbers-clause-key : goal.returns-else-is_numbers-clause-key
-returns-else-is_numbers-clause-key c =
-    let set = c.args.self.now in
-    let all = positions_chunks set c.if-self-eq0.false in
-    let at = c.if-position-end.false in
-    let span = c.requires.span in
-    let later = span.later in
-    let within = span.within in
-    (blocks_body set c.args.position c.body_of-body.result.now c.if-self-eq0.false (omega arith) c.body_of-body.ensures (sym c.is_numbers.ensures ∙ c.if-is_numbers.false)).0
+pub returns-in-Numbers-clause-key : goal.returns-in-Numbers-clause-key
+returns-in-Numbers-clause-key c =
+    let rising = subst AreLows c.in-Numbers.is c.lows.ensures.are in
+    subst (AreOf c.args.key) (sym c.numbers.ensures) (of_raised c.args.key 0 (pairs_of c.in-Numbers.body.now) rising)
+
+pub returns-in-Numbers-clause-lows : goal.returns-in-Numbers-clause-lows
+returns-in-Numbers-clause-lows c =
+    let rising = subst AreLows c.in-Numbers.is c.lows.ensures.are in
+    ap lows_in c.numbers.ensures ∙ lows_raised c.args.key 0 (pairs_of c.in-Numbers.body.now) rising ∙ ap lows (sym c.in-Numbers.is)
+    ∙ c.lows.ensures.lows ∙ sym (between_chunk c.args.self.now c.args.position c.args.end c.if-self-eq0.false c.if-position-end.false)
+
+pub returns-in-Blocks-clause-key : goal.returns-in-Blocks-clause-key
+returns-in-Blocks-clause-key c = subst AreLows c.in-Blocks.is c.lows.ensures.are
+
+pub returns-in-Blocks-clause-lows : goal.returns-in-Blocks-clause-lows
+returns-in-Blocks-clause-lows c =
+    ap lows (sym c.in-Blocks.is) ∙ c.lows.ensures.lows ∙ sym (between_chunk c.args.self.now c.args.position c.args.end c.if-self-eq0.false c.if-position-end.false)

@@ -1,15 +1,14 @@
 -- The ids of a key are the chunk of a position, or those up to the first of a higher key.
 use Rattle.std.proofs.Common.{◌≡◌, ◌≢◌, ◌∙◌, ◌+◌, ◌-◌, ◌%◌, ◌<◌, ◌≤◌, ℕ, List, ap, arith, inl, inr, sym}
 use Rattle.std.proofs.lemmas.Bool.{cases_lt}
-use Rattle.bitpack_sets.proofs.CountLaws.{bytes_are}
-use Rattle.bitpack_sets.proofs.NumberReads.{quads_len}
-use Rattle.bitpack_sets.proofs.PositionLaws.{array_own, between_array, between_chunk, between_none, chunk_key, chunk_own, chunk_up, from_array, from_chunks, positions_array, positions_chunks, walk}
-use Rattle.bitpack_sets.proofs.WalkLaws.{array_key, walk_up}
+use Rattle.bitpack_slices.proofs.ForCallers.{bytes_are, quads_len}
+use Rattle.bitpack_sets.proofs.lemmas.reads.PositionLaws.{array_own, between_array, between_chunk, between_none, chunk_key, chunk_own, chunk_up, from_array, from_chunks, positions_array, positions_chunks, walk}
+use Rattle.bitpack_sets.proofs.lemmas.reads.WalkLaws.{array_key, walk_up}
 use Rattle.bitpack_sets.proofs.chunks.Chunks.end.Goals as goal
 use Rattle.bitpack_sets.specs.Chunks.{first_key, ids_from, positions}
 use Rattle.bitpack_sets.specs.Directory.{key_at}
-use Rattle.bitpack_sets.specs.Reads.{has}
-use Rattle.bitpack_sets.specs.Slices.{quads_of}
+use Rattle.bitpack_slices.specs.Reads.{has}
+use Rattle.bitpack_slices.specs.Slices.{quads_of}
 use Rattle.bitpack_sets.specs.declared.chunks.Chunks.{Chunks}
 
 pub returns-then-key-clause-own : goal.returns-then-key-clause-own

@@ -2,9 +2,9 @@
 use Rattle.std.proofs.Common.{◌≡◌, ◌∙◌, ◌/◌, ◌%◌, ℕ, zero, suc, [], ◌∷◌, ap, arith, eqb, false, get_or, refl, sym}
 use Rattle.std.specs.Int.{bit_at}
 use Rattle.std.proofs.lemmas.Nat.Bits.{bit_at-zero}
-use Rattle.bitpack_sets.proofs.PositionLaws.{between_none, blocks_body, lows_array, positions_chunks}
+use Rattle.bitpack_sets.proofs.lemmas.reads.PositionLaws.{between_chunk, between_none, lows_array, positions_chunks}
 use Rattle.bitpack_sets.proofs.chunks.Chunks.highs.Goals as goal
-use Rattle.bitpack_sets.specs.Bitmaps.{has_bit, has_high}
+use Rattle.bitpack_slices.specs.Bitmaps.{has_bit, has_high}
 use Rattle.bitpack_sets.specs.Chunks.{lows_between}
 
 no_word : (i : ℕ) → ◌≡◌ {A = ℕ} (get_or (0 ∷ 0 ∷ 0 ∷ 0 ∷ []) i 0) 0
@@ -27,7 +27,12 @@ pub returns-then-self-eq0 : goal.returns-then-self-eq0
 returns-then-self-eq0 c h small =
     c.integer_highs.ensures h small ∙ ap (has_high h) (lows_array c.args.self.now c.args.position c.args.end c.if-self-eq0.true c.requires.within.0 c.requires.within.1)
 
-pub block_highs-requires : goal.block_highs-requires
-block_highs-requires c =
-    (blocks_body c.args.self.now c.args.position c.body_of-body.result.now c.if-self-eq0.false
-    (let all = positions_chunks c.args.self.now c.if-self-eq0.false in let at = c.if-position-end.false in omega arith) c.body_of-body.ensures (sym c.is_numbers.ensures ∙ c.if-is_numbers.false)).0
+pub lows-requires-clause-within : goal.lows-requires-clause-within
+lows-requires-clause-within c =
+    let all = positions_chunks c.args.self.now c.if-self-eq0.false in
+    let at = c.if-position-end.false in
+    omega arith
+
+pub returns : goal.returns
+returns c h small =
+    c.highs.ensures h small ∙ ap (has_high h) (c.lows.ensures.lows ∙ sym (between_chunk c.args.self.now c.args.position c.args.end c.if-self-eq0.false c.if-position-end.false))

@@ -1,9 +1,8 @@
 -- The key of an id, or of a chunk.
 use Rattle.std.proofs.Common.{◌∙◌, ◌/◌, ◌<◌, ℕ, ap, arith, subst, sym}
-use Rattle.bitpack_sets.proofs.CountLaws.{bytes_are}
-use Rattle.bitpack_sets.proofs.NumberReads.{quads_len}
-use Rattle.bitpack_sets.proofs.PositionLaws.{chunk_key, from_array, from_chunks, positions_array, positions_chunks, walk}
-use Rattle.bitpack_sets.proofs.WalkLaws.{array_key}
+use Rattle.bitpack_slices.proofs.ForCallers.{bytes_are, quads_len}
+use Rattle.bitpack_sets.proofs.lemmas.reads.PositionLaws.{chunk_key, from_array, from_chunks, positions_array, positions_chunks, walk}
+use Rattle.bitpack_sets.proofs.lemmas.reads.WalkLaws.{array_key}
 use Rattle.bitpack_sets.proofs.chunks.Chunks.key.Goals as goal
 use Rattle.bitpack_sets.specs.Chunks.{first_key}
 

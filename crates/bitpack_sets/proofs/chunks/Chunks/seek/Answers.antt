@@ -1,7 +1,7 @@
 -- The middle position tells which half has the first whose key is not lower.
 use Rattle.std.proofs.Common.{◌-◌, ◌/◌, ap, arith}
-use Rattle.bitpack_sets.proofs.PositionLaws.{walk}
-use Rattle.bitpack_sets.proofs.WalkLaws.{sought_right, sought_start}
+use Rattle.bitpack_sets.proofs.lemmas.reads.PositionLaws.{walk}
+use Rattle.bitpack_sets.proofs.lemmas.reads.WalkLaws.{sought_right, sought_start}
 use Rattle.bitpack_sets.proofs.chunks.Chunks.seek.Goals as goal
 use Rattle.bitpack_sets.specs.Chunks.{ids_from, positions}
 

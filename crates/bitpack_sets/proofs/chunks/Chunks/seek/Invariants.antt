@@ -1,5 +1,5 @@
 -- The position is among those that are left.
-use Rattle.bitpack_sets.proofs.WalkLaws.{IsSought}
+use Rattle.bitpack_sets.proofs.lemmas.reads.WalkLaws.{IsSought}
 use Rattle.bitpack_sets.proofs.chunks.Chunks.seek.Given as goal
 use Rattle.bitpack_sets.specs.Chunks.{ids_from, positions}
 

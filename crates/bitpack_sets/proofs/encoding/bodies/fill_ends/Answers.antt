@@ -1,7 +1,7 @@
 -- An id more, and the last end.
 use Rattle.std.proofs.Common.{arith}
-use Rattle.bitpack_sets.proofs.EndsFilled.{ends_done, ends_more, ends_start, slot_room}
-use Rattle.bitpack_sets.proofs.RunLaws.{chunk_few}
+use Rattle.bitpack_sets.proofs.lemmas.written.EndsFilled.{ends_done, ends_more, ends_start, slot_room}
+use Rattle.bitpack_sets.proofs.lemmas.written.RunLaws.{chunk_few}
 use Rattle.bitpack_sets.proofs.encoding.bodies.fill_ends.Goals as goal
 
 pub loop-index-init : goal.loop-index-init

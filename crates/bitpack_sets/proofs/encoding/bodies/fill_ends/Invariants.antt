@@ -1,5 +1,5 @@
 -- The ends up to an id are filled in.
-use Rattle.bitpack_sets.proofs.EndsFilled.{EndsFilled}
+use Rattle.bitpack_sets.proofs.lemmas.written.EndsFilled.{EndsFilled}
 use Rattle.bitpack_sets.proofs.encoding.bodies.fill_ends.Given as goal
 
 abbrev pub invariant-loop-index : goal.invariant-loop-index

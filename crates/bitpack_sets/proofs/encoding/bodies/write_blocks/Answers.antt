@@ -1,11 +1,11 @@
 -- The parts of the blocks have their places.
 use Rattle.std.proofs.Common.{ℕ, ◌%◌, List, length, ap, sym, subst, arith, ◌∙◌}
 use Rattle.std.proofs.lemmas.List.{length-map, length-take-le}
-use Rattle.bitpack_sets.proofs.BodyFilled.{blocks_joined, blocks_sizes, high_bytes, high_lows, parts_few}
-use Rattle.bitpack_sets.proofs.RunLaws.{parts_some}
+use Rattle.bitpack_sets.proofs.lemmas.written.BodyFilled.{blocks_joined, blocks_sizes, high_bytes, high_lows, parts_few}
+use Rattle.bitpack_sets.proofs.lemmas.written.RunLaws.{parts_some}
 use Rattle.bitpack_sets.proofs.encoding.bodies.write_blocks.Goals as goal
-use Rattle.bitpack_sets.specs.Sets.{IsRising, parts, slice}
-use Rattle.bitpack_sets.specs.Slices.{slice_len}
+use Rattle.bitpack_slices.specs.Bodies.{IsRising, parts, slice}
+use Rattle.bitpack_slices.specs.Slices.{slice_len}
 use Rattle.bitpack_sets.specs.Written.{lows}
 
 pub split_at_mut-head-requires : goal.split_at_mut-head-requires

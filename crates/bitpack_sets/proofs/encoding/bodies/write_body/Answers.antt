@@ -1,6 +1,6 @@
 -- The length says which form the body has.
 use Rattle.std.proofs.Common.{ap, length, sym, arith, ◌∙◌}
-use Rattle.bitpack_sets.proofs.BodyFilled.{is_blocks, is_numbers, numbers_size, pairs_are}
+use Rattle.bitpack_sets.proofs.lemmas.written.BodyFilled.{is_blocks, is_numbers, numbers_size, pairs_are}
 use Rattle.bitpack_sets.proofs.encoding.bodies.write_body.Goals as goal
 
 pub write_blocks-requires-clause-size : goal.write_blocks-requires-clause-size

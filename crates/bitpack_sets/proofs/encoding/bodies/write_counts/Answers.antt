@@ -1,8 +1,8 @@
 -- One slice more.
 use Rattle.std.proofs.Common.{◌-◌, drop, get_or, arith}
-use Rattle.bitpack_sets.proofs.EndsFilled.{left_next}
-use Rattle.bitpack_sets.proofs.PartsFilled.{counts_end, counts_more, counts_room, counts_start}
-use Rattle.bitpack_sets.proofs.RunLaws.{slice_few}
+use Rattle.bitpack_sets.proofs.lemmas.written.EndsFilled.{left_next}
+use Rattle.bitpack_sets.proofs.lemmas.written.PartsFilled.{counts_end, counts_more, counts_room, counts_start}
+use Rattle.bitpack_sets.proofs.lemmas.written.RunLaws.{slice_few}
 use Rattle.bitpack_sets.proofs.encoding.bodies.write_counts.Goals as goal
 
 pub loop-index-init : goal.loop-index-init

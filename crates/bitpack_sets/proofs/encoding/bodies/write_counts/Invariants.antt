@@ -1,5 +1,5 @@
 -- The high bytes and counts from `begin` on are still to be written.
-use Rattle.bitpack_sets.proofs.PartsFilled.{CountsLeft}
+use Rattle.bitpack_sets.proofs.lemmas.written.PartsFilled.{CountsLeft}
 use Rattle.bitpack_sets.proofs.encoding.bodies.write_counts.Given as goal
 
 abbrev pub invariant-loop-index : goal.invariant-loop-index

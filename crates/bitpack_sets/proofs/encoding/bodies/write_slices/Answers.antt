@@ -1,8 +1,8 @@
 -- One slice more, alone or with the bytes before it.
 use Rattle.std.proofs.Common.{◌-◌, length, get_or, drop, sym, arith, rules, ◌∙◌, length-drop}
 use Rattle.std.proofs.lemmas.List.{length-take-le}
-use Rattle.bitpack_sets.proofs.PartsFilled.{end_room, next_is, slice_room, slices_end, slices_long, slices_short, slices_start}
-use Rattle.bitpack_sets.proofs.RunLaws.{slice_rises}
+use Rattle.bitpack_sets.proofs.lemmas.written.PartsFilled.{end_room, next_is, slice_room, slices_end, slices_long, slices_short, slices_start}
+use Rattle.bitpack_sets.proofs.lemmas.written.RunLaws.{slice_rises}
 use Rattle.bitpack_sets.proofs.encoding.bodies.write_slices.Goals as goal
 use Rattle.bitpack_sets.proofs.encoding.bodies.write_slices.Goals.{then-end-first-ge32, else-end-first-ge32}
 

@@ -1,5 +1,5 @@
 -- The lowest bytes from `from` on, and the slices from `begin` on, are still to be written.
-use Rattle.bitpack_sets.proofs.PartsFilled.{SlicesLeft}
+use Rattle.bitpack_sets.proofs.lemmas.written.PartsFilled.{SlicesLeft}
 use Rattle.bitpack_sets.proofs.encoding.bodies.write_slices.Given as goal
 
 abbrev pub invariant-loop-index : goal.invariant-loop-index

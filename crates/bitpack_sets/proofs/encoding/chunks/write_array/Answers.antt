@@ -1,7 +1,7 @@
 -- The parts of the array have their places.
 use Rattle.std.proofs.Common.{arith, length}
-use Rattle.bitpack_sets.proofs.FewLaws.{all_of}
-use Rattle.bitpack_sets.proofs.LongFilled.{array_joined, array_size}
+use Rattle.bitpack_sets.proofs.lemmas.encodings.FewLaws.{all_of}
+use Rattle.bitpack_sets.proofs.lemmas.written.LongFilled.{array_joined, array_size}
 use Rattle.bitpack_sets.proofs.encoding.chunks.write_array.Goals as goal
 use Rattle.bitpack_sets.specs.Varints.{number}
 

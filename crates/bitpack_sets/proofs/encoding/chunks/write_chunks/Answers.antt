@@ -1,7 +1,7 @@
 -- The parts of the encoding have their places.
 use Rattle.std.proofs.Common.{◌≡◌, length, ap, arith, ◌∙◌, refl}
-use Rattle.bitpack_sets.proofs.LongFilled.{chunks_joined, chunks_size}
-use Rattle.bitpack_sets.proofs.RoomLaws.{bodies_few}
+use Rattle.bitpack_sets.proofs.lemmas.written.LongFilled.{chunks_joined, chunks_size}
+use Rattle.bitpack_sets.proofs.lemmas.encodings.RoomLaws.{bodies_few}
 use Rattle.bitpack_sets.proofs.encoding.chunks.write_chunks.Goals as goal
 use Rattle.bitpack_sets.specs.Varints.{byte_count}
 use Rattle.bitpack_sets.specs.Written.{directory}

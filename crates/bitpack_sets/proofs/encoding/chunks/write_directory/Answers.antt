@@ -1,6 +1,6 @@
 -- Keys, ends, sums and bodies have their places.
 use Rattle.std.proofs.Common.{◌*◌, ap, sym, arith, ◌∙◌}
-use Rattle.bitpack_sets.proofs.LongFilled.{directory_size, ends_size, keys_size, sums_size}
+use Rattle.bitpack_sets.proofs.lemmas.written.LongFilled.{directory_size, ends_size, keys_size, sums_size}
 use Rattle.bitpack_sets.proofs.encoding.chunks.write_directory.Goals as goal
 
 pub split_at_mut-keys-requires : goal.split_at_mut-keys-requires

@@ -2,8 +2,8 @@
 use Rattle.std.proofs.Common.{◌≡◌, ℕ, ◌+◌, ◌%◌, ◌≤◌, List, length, take, sym, arith, rules, ◌∙◌}
 use Rattle.std.proofs.lemmas.List.{length-map, length-take-le}
 use Rattle.bitpack_groups.proofs.ForCallers.{lent_len}
-use Rattle.bitpack_sets.proofs.EntriesFilled.{body_room, end_room, entries_end, entries_more, entries_start, key_room, sum_room}
-use Rattle.bitpack_sets.proofs.RunLaws.{chunk_few, run_chunk}
+use Rattle.bitpack_sets.proofs.lemmas.written.EntriesFilled.{body_room, end_room, entries_end, entries_more, entries_start, key_room, sum_room}
+use Rattle.bitpack_sets.proofs.lemmas.written.RunLaws.{chunk_few, run_chunk}
 use Rattle.bitpack_sets.proofs.encoding.chunks.write_entries.Goals as goal
 use Rattle.bitpack_sets.specs.Sets.{body}
 use Rattle.bitpack_sets.specs.Written.{IsChunk, lows}

@@ -1,6 +1,6 @@
 -- The entries and bodies of what is left are still to be written.
 use Rattle.std.proofs.Common.{length}
-use Rattle.bitpack_sets.proofs.EntriesFilled.{EntriesLeft}
+use Rattle.bitpack_sets.proofs.lemmas.written.EntriesFilled.{EntriesLeft}
 use Rattle.bitpack_sets.proofs.encoding.chunks.write_entries.Given as goal
 
 abbrev pub invariant-loop-left : goal.invariant-loop-left

@@ -1,7 +1,7 @@
 -- The parts of the head have their places.
 use Rattle.std.proofs.Common.{◌+◌, ◌*◌, arith}
-use Rattle.bitpack_sets.proofs.FewLaws.{all_of}
-use Rattle.bitpack_sets.proofs.LongFilled.{head_joined}
+use Rattle.bitpack_sets.proofs.lemmas.encodings.FewLaws.{all_of}
+use Rattle.bitpack_sets.proofs.lemmas.written.LongFilled.{head_joined}
 use Rattle.bitpack_sets.proofs.encoding.chunks.write_head.Goals as goal
 use Rattle.bitpack_sets.specs.Varints.{number}
 

@@ -1,7 +1,7 @@
 -- One code more is written.
 use Rattle.std.proofs.Common.{◌^◌, arith}
 use Rattle.bitpack_groups.proofs.ForCallers.{fill_done, fill_start}
-use Rattle.bitpack_sets.proofs.FewLaws.{codes_len, codes_of, gap_more, gap_none, id_above}
+use Rattle.bitpack_sets.proofs.lemmas.encodings.FewLaws.{codes_len, codes_of, gap_more, gap_none, id_above}
 use Rattle.bitpack_sets.proofs.encoding.few.copy_gaps.Goals as goal
 
 pub loop-index-init : goal.loop-index-init

@@ -1,6 +1,6 @@
 -- A byte, the first id and the groups of the codes.
 use Rattle.std.proofs.Common.{◌≡◌, ◌<◌, List, ℕ, ap, arith, length, rules, subst, sym}
-use Rattle.bitpack_sets.proofs.FewLaws.{codes_of, codes_run, few_size, groups_encoding, no_ids}
+use Rattle.bitpack_sets.proofs.lemmas.encodings.FewLaws.{codes_of, codes_run, few_size, groups_encoding, no_ids}
 use Rattle.bitpack_sets.proofs.encoding.few.few_len.Goals as goal
 use Rattle.bitpack_sets.specs.Varints.{AreGroups, groups_of}
 

@@ -1,7 +1,7 @@
 -- Without an id, the encoding is one byte.
 use Rattle.std.proofs.Common.{◌≡◌, ap, arith, length, rules, sym, ◌∙◌}
-use Rattle.bitpack_sets.proofs.BodyFilled.{one_set}
-use Rattle.bitpack_sets.proofs.FewLaws.{no_ids}
+use Rattle.bitpack_sets.proofs.lemmas.written.BodyFilled.{one_set}
+use Rattle.bitpack_sets.proofs.lemmas.encodings.FewLaws.{no_ids}
 use Rattle.bitpack_sets.proofs.encoding.few.write_few.Goals as goal
 
 pub bounds-out-0 : goal.bounds-out-0

@@ -1,7 +1,7 @@
 -- The parts of the encoding have their places.
 use Rattle.std.proofs.Common.{◌≡◌, ◌+◌, ◌∷◌, ◌++◌, List, ℕ, ap, arith, length, subst, sym, ◌∙◌, get_or}
-use Rattle.bitpack_sets.proofs.BodyFilled.{one_set}
-use Rattle.bitpack_sets.proofs.FewLaws.{all_of, codes_of, codes_one, codes_run, few_encoding, few_size, groups_encoding}
+use Rattle.bitpack_sets.proofs.lemmas.written.BodyFilled.{one_set}
+use Rattle.bitpack_sets.proofs.lemmas.encodings.FewLaws.{all_of, codes_of, codes_one, codes_run, few_encoding, few_size, groups_encoding}
 use Rattle.bitpack_sets.proofs.encoding.few.write_some.Goals as goal
 use Rattle.bitpack_sets.specs.Varints.{AreGroups, groups_of, number}
 

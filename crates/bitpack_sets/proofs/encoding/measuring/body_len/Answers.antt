@@ -1,6 +1,6 @@
 -- The shorter of the two forms.
 use Rattle.std.proofs.Common.{arith}
-use Rattle.bitpack_sets.proofs.MeasureLaws.{blocks_shorter, numbers_shorter}
+use Rattle.bitpack_sets.proofs.lemmas.written.MeasureLaws.{blocks_shorter, numbers_shorter}
 use Rattle.bitpack_sets.proofs.encoding.measuring.body_len.Goals as goal
 
 pub returns-then-blocks-numbers-clause-len : goal.returns-then-blocks-numbers-clause-len

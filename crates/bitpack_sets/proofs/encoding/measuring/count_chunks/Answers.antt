@@ -1,9 +1,9 @@
 -- One id more.
 use Rattle.std.proofs.Common.{◌≡◌, ◌-◌, ◌/◌, ℕ, List, [], ap, refl, ◌∙◌, get_or, length, arith, sym}
 use Rattle.std.proofs.lemmas.List.{nil_from_length}
-use Rattle.bitpack_sets.specs.Sets.{parts}
-use Rattle.bitpack_sets.proofs.CountedRuns.{counted_next, step_few}
-use Rattle.bitpack_sets.proofs.FallLaws.{counted_done, counted_start}
+use Rattle.bitpack_slices.specs.Bodies.{parts}
+use Rattle.bitpack_sets.proofs.lemmas.written.CountedRuns.{counted_next, step_few}
+use Rattle.bitpack_sets.proofs.lemmas.written.FallLaws.{counted_done, counted_start}
 use Rattle.bitpack_sets.proofs.encoding.measuring.count_chunks.Goals as goal
 
 pub loop-index-init : goal.loop-index-init

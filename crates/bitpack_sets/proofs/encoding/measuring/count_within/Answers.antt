@@ -1,8 +1,8 @@
 -- An id more is counted if the one so far after it has another quotient.
 use Rattle.std.proofs.Common.{◌≡◌, ℕ, ◌+◌, ◌-◌, ◌/◌, List, length, get_or, take, drop, eqb, cond, sym, ap, arith, ◌∙◌, length-drop}
-use Rattle.bitpack_sets.proofs.CountedRuns.{lasts_are, lasts_few, lasts_more, step_few, step_is}
-use Rattle.bitpack_sets.proofs.EqualLaws.{tail_whole}
-use Rattle.bitpack_sets.proofs.RunLaws.{chunk_few, get_drop}
+use Rattle.bitpack_sets.proofs.lemmas.written.CountedRuns.{lasts_are, lasts_few, lasts_more, step_few, step_is}
+use Rattle.bitpack_slices.proofs.ForCallers.{tail_whole}
+use Rattle.bitpack_sets.proofs.lemmas.written.RunLaws.{chunk_few, get_drop}
 use Rattle.bitpack_sets.proofs.encoding.measuring.count_within.Goals as goal
 
 pub returns-then-ids-most : goal.returns-then-ids-most

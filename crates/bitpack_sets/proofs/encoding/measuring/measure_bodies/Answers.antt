@@ -1,8 +1,8 @@
 -- One chunk more is measured.
 use Rattle.std.proofs.Common.{◌≡◌, ℕ, ◌%◌, List, length, take, arith, rules, ◌∙◌, sym}
 use Rattle.std.proofs.lemmas.List.{length-map, length-take-le}
-use Rattle.bitpack_sets.proofs.MeasureLaws.{chunks_end, chunks_more}
-use Rattle.bitpack_sets.proofs.RunLaws.{chunk_few, run_chunk}
+use Rattle.bitpack_sets.proofs.lemmas.written.MeasureLaws.{chunks_end, chunks_more}
+use Rattle.bitpack_sets.proofs.lemmas.written.RunLaws.{chunk_few, run_chunk}
 use Rattle.bitpack_sets.proofs.encoding.measuring.measure_bodies.Goals as goal
 use Rattle.bitpack_sets.specs.Written.{IsChunk, lows}
 

@@ -1,6 +1,6 @@
 -- The chunks of what is left are still to be measured.
 use Rattle.std.proofs.Common.{length}
-use Rattle.bitpack_sets.proofs.MeasureLaws.{ChunksLeft}
+use Rattle.bitpack_sets.proofs.lemmas.written.MeasureLaws.{ChunksLeft}
 use Rattle.bitpack_sets.proofs.encoding.measuring.measure_bodies.Given as goal
 
 abbrev pub invariant-loop-left : goal.invariant-loop-left

@@ -1,6 +1,6 @@
 -- The slices are measured by what is counted.
 use Rattle.std.proofs.Common.{arith}
-use Rattle.bitpack_sets.proofs.CountedRuns.{are_measured}
+use Rattle.bitpack_sets.proofs.lemmas.written.CountedRuns.{are_measured}
 use Rattle.bitpack_sets.proofs.encoding.measuring.measure_slices.Goals as goal
 
 pub overflow_sub-full : goal.overflow_sub-full

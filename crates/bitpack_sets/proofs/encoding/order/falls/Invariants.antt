@@ -1,6 +1,6 @@
 -- If no id so far falls, they increase.
 use Rattle.std.proofs.Common.{◌≡◌, false}
-use Rattle.bitpack_sets.proofs.RefusalLaws.{RisesTo}
+use Rattle.bitpack_sets.proofs.lemmas.faults.RefusalLaws.{RisesTo}
 use Rattle.bitpack_sets.proofs.encoding.order.falls.Given as goal
 
 abbrev pub invariant-loop-index : goal.invariant-loop-index

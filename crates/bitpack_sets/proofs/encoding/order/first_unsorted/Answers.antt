@@ -1,6 +1,6 @@
 -- Ids that increase have no position, and the first that does not is found.
 use Rattle.std.proofs.Common.{◌≡◌, false, sym, rules, arith}
-use Rattle.bitpack_sets.proofs.RefusalLaws.{fall_none, found_at}
+use Rattle.bitpack_sets.proofs.lemmas.faults.RefusalLaws.{fall_none, found_at}
 use Rattle.bitpack_sets.proofs.encoding.order.first_unsorted.Goals as goal
 
 pub returns-then-not-falls-clause-found : goal.returns-then-not-falls-clause-found

@@ -1,5 +1,5 @@
 -- The ids so far increase.
-use Rattle.bitpack_sets.proofs.RefusalLaws.{RisesTo}
+use Rattle.bitpack_sets.proofs.lemmas.faults.RefusalLaws.{RisesTo}
 use Rattle.bitpack_sets.proofs.encoding.order.first_unsorted.Given as goal
 
 abbrev pub invariant-loop-index : goal.invariant-loop-index

@@ -1,10 +1,10 @@
 -- Ids are refused as those of the set before them and they.
 use Rattle.std.proofs.Common.{◌+◌, ◌<◌, ℕ, get_or, Option, sym, ap, ◌∙◌, arith, rules}
 use Rattle.std.specs.Option.{option_map}
-use Rattle.bitpack_sets.proofs.MoreLaws.{first_refused, later_refused, more_is, none_refused}
+use Rattle.bitpack_sets.proofs.lemmas.faults.MoreLaws.{first_refused, later_refused, more_is, none_refused}
 use Rattle.bitpack_sets.proofs.encoding.order.test_more.Goals as goal
 use Rattle.bitpack_sets.proofs.encoding.order.test_more.Goals.{else-count-gt0-via-then-count-gt0+else-more-last, else-count-gt0-via-else-count-gt0}
-use Rattle.bitpack_sets.specs.declared.set_error.SetError.TheVariants.{NotSorted}
+use Rattle.bitpack_slices.specs.declared.set_error.SetError.TheVariants.{NotSorted}
 
 pub returns-then-is_empty-clause-fault : goal.returns-then-is_empty-clause-fault
 returns-then-is_empty-clause-fault c ids set ends = none_refused ids c.args.more.now c.args.count c.args.last ends set c.requires.few (search rules)

@@ -1,6 +1,6 @@
 -- The positions are next to each other.
 use Rattle.std.proofs.Common.{◌^◌, arith, pow_pos}
-use Rattle.bitpack_sets.proofs.CountedRuns.{run_found}
+use Rattle.bitpack_sets.proofs.lemmas.written.CountedRuns.{run_found}
 use Rattle.bitpack_sets.proofs.encoding.runs.run_len.Goals as goal
 
 pub returns : goal.returns

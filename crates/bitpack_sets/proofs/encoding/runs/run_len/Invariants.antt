@@ -1,6 +1,6 @@
 -- The run ends between two positions.
 use Rattle.std.proofs.Common.{◌-◌, ◌^◌}
-use Rattle.bitpack_sets.proofs.CountedRuns.{RunEnds}
+use Rattle.bitpack_sets.proofs.lemmas.written.CountedRuns.{RunEnds}
 use Rattle.bitpack_sets.proofs.encoding.runs.run_len.Given as goal
 
 abbrev pub invariant-loop-high : goal.invariant-loop-high

@@ -1,6 +1,6 @@
 -- The ids are read from the bytes, which have no fault.
 use Rattle.bitpacking.proofs.ForCallers.{AreBytes-from_slice}
-use Rattle.bitpack_sets.proofs.EncodingLaws.{ids_are_read}
+use Rattle.bitpack_sets.proofs.lemmas.encodings.EncodingLaws.{ids_are_read}
 use Rattle.bitpack_sets.proofs.id_set.IdSet.from_parts.Goals as goal
 
 pub returns-clause-set : goal.returns-clause-set

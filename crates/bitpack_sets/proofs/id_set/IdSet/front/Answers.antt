@@ -1,46 +1,41 @@
 -- A set in chunks has a last chunk.
-use Rattle.std.proofs.Common.{◌≡◌, ◌-◌, ◌≤◌, ℕ, List, ap, arith, get_or, length, subst, sym, ◌∙◌, rules}
+use Rattle.std.proofs.Common.{◌≡◌, ◌≢◌, ◌-◌, ◌≤◌, List, ap, arith, get_or, length, refl, subst, sym, ◌∙◌, ℕ}
 use Rattle.std.proofs.lemmas.Bool.{ne_eqb}
-use Rattle.bitpack_sets.proofs.CountLaws.{bytes_are}
-use Rattle.bitpack_sets.proofs.FormLaws.{some_bytes, stated_chunks}
-use Rattle.bitpack_sets.proofs.FrontLaws.{is_front, many_ids}
-use Rattle.bitpack_sets.proofs.EncodingLaws.{count_stated, ids_are_read}
+use Rattle.bitpack_slices.proofs.ForCallers.{bytes_are}
+use Rattle.bitpack_sets.proofs.lemmas.written.FrontLaws.{is_front, many_ids}
+use Rattle.bitpack_sets.proofs.lemmas.encodings.EncodingLaws.{ids_are_read}
 use Rattle.bitpack_sets.proofs.id_set.IdSet.front.Goals as goal
-use Rattle.bitpack_sets.specs.Directory.{chunk_ids}
+use Rattle.bitpack_sets.specs.Forms.{IsForm}
 use Rattle.bitpack_sets.specs.Fronts.{IsFront, front_ids}
-use Rattle.bitpack_sets.specs.Opened.{ids}
+use Rattle.bitpack_sets.specs.Opened.{encoding_of, ids}
+use Rattle.bitpack_sets.specs.declared.directory.Directory.{Directory}
+use Rattle.bitpack_sets.specs.declared.form.Form.{Form}
+use Rattle.bitpack_sets.specs.declared.form.Form.TheVariants as form
+use Rattle.bitpack_sets.specs.declared.id_set.IdSet.{IdSet}
 use Rattle.bitpack_sets.specs.Sets.{encoding}
 
-pub bounds-self-0 : goal.bounds-self-0
-bounds-self-0 c = let set = c.args.self.now in some_bytes set.bytes.now set.states.none
-
-pub new-requires-clause-few : goal.new-requires-clause-few
-new-requires-clause-few c = let set = c.args.self.now in (stated_chunks set.bytes.now set.rest.now set.count set.chunks set.are_bytes set.states (search rules)).few
-
-pub new-requires-clause-most : goal.new-requires-clause-most
-new-requires-clause-most c =
+pub returns-in-Chunks-clause-front : goal.returns-in-Chunks-clause-front
+returns-in-Chunks-clause-front c =
     let set = c.args.self.now in
-    let few = (ids_are_read set.bytes.now set.are_bytes set.states.none).0.few in
-    let e : set.count ≡ length (ids set) = set.states.count_is ∙ count_stated set.bytes.now set.are_bytes set.states.none in
-    omega arith
+    let directory = c.in-Chunks.directory in
+    let is = subst (IsForm set) c.in-Chunks.is c.form.ensures in
+    let first = ap (λ (l : List ℕ). get_or l 0 0) (ids_are_read set.bytes.now set.are_bytes set.states.none).1 in
+    let many = many_ids _ (first ∙ is.chunks) in
+    let some = directory.sound.some in
+    let front = is_front directory.count directory.chunks directory.rest.now (bytes_are directory.rest.now directory.are_bytes) directory.sound (directory.chunks - 1)
+    (omega arith) (subst (λ (l : List ℕ). 128 ≤ length l) (sym is.ids_are) many) (omega arith) in
+    subst (IsFront (front_ids (record { directory = directory }))) is.ids_are front
 
-pub new-requires-clause-rest : goal.new-requires-clause-rest
-new-requires-clause-rest c = let set = c.args.self.now in (stated_chunks set.bytes.now set.rest.now set.count set.chunks set.are_bytes set.states (search rules)).is
+not_chunks : (set : IdSet) (it : Form) → IsForm set it → ((directory : Directory) → it ≡ form.Chunks directory → ⊥) → get_or (encoding_of set) 0 0 ≢ 5
+not_chunks set (form.Few few) is other five = is.not_chunks five
+not_chunks set (form.Array rest) is other five = let six = is.array in absurd (omega arith)
+not_chunks set (form.Chunks directory) is other five = absurd (other directory refl)
 
-pub returns-then-self-ne5-clause-none : goal.returns-then-self-ne5-clause-none
-returns-then-self-ne5-clause-none c none =
+pub returns-in_default : goal.returns-in_default
+returns-in_default c =
     let set = c.args.self.now in
-    ne_eqb (get_or (encoding (ids set)) 0 0) 5 (λ five. c.if-self-ne5.true (sym (ap (λ (l : List ℕ). get_or l 0 0) (ids_are_read set.bytes.now set.are_bytes set.states.none).1) ∙ five))
-
-pub returns-clause-front : goal.returns-clause-front
-returns-clause-front c =
-    let set = c.args.self.now in
-    let five : get_or set.bytes.now 0 0 ≡ 5 = search rules in
-    let in_chunks = stated_chunks set.bytes.now set.rest.now set.count set.chunks set.are_bytes set.states five in
-    let many : 128 ≤ length (ids set) = many_ids (ids set) (ap (λ (l : List ℕ). get_or l 0 0) (ids_are_read set.bytes.now set.are_bytes set.states.none).1 ∙ five) in
-    let each = bytes_are c.new.result.rest.now c.new.result.are_bytes in
-    let same : ids set ≡ chunk_ids c.new.result.chunks c.new.result.rest.now =
-    in_chunks.ids_are ∙ ap (λ (n : ℕ). chunk_ids n set.rest.now) (sym c.new.ensures.chunks) ∙ ap (chunk_ids c.new.result.chunks) (sym c.new.ensures.rest) in
-    let some = c.new.result.sound.some in
-    let is = is_front c.new.result.ids c.new.result.chunks c.new.result.rest.now each c.new.result.sound (c.new.result.chunks - 1) (omega arith) (subst (λ (l : List ℕ). 128 ≤ length l) same many) (omega arith) in
-    subst (IsFront (front_ids c.new.result)) (sym same) is
+    let not5 = not_chunks set c.form.result c.form.ensures c.in_default.not-Chunks in
+    record {
+      front = tt;
+      none = λ none. ne_eqb (get_or (encoding (ids set)) 0 0) 5 (λ five. not5 (sym (ap (λ (l : List ℕ). get_or l 0 0) (ids_are_read set.bytes.now set.are_bytes set.states.none).1) ∙ five));
+    }

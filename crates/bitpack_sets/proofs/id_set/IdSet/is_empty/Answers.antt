@@ -2,7 +2,7 @@
 use Rattle.std.proofs.Common.{◌≡◌, length, ap, ◌∙◌, sym, eqb-true, eq-eqb}
 use Rattle.std.proofs.lemmas.List.{nil_from_length}
 use Rattle.bitpack_sets.specs.Opened.{ids}
-use Rattle.bitpack_sets.proofs.EncodingLaws.{count_stated}
+use Rattle.bitpack_sets.proofs.lemmas.encodings.EncodingLaws.{count_stated}
 use Rattle.bitpack_sets.proofs.id_set.IdSet.is_empty.Goals as goal
 
 pub returns : goal.returns

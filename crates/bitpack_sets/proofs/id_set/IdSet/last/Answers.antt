@@ -1,7 +1,7 @@
 -- The ids are a set, and the last is at the last position.
 use Rattle.std.proofs.Common.{◌≡◌, ◌-◌, ℕ, arith, ap, get_or, length, ◌∙◌, sym}
 use Rattle.bitpack_sets.specs.Opened.{ids}
-use Rattle.bitpack_sets.proofs.EncodingLaws.{count_stated, ids_are_read}
+use Rattle.bitpack_sets.proofs.lemmas.encodings.EncodingLaws.{count_stated, ids_are_read}
 use Rattle.bitpack_sets.proofs.id_set.IdSet.last.Goals as goal
 
 pub returns-then-self-eq0-clause-set : goal.returns-then-self-eq0-clause-set

@@ -1,6 +1,6 @@
 -- The count that the encoding states is that of its ids.
 use Rattle.std.proofs.Common.{◌∙◌}
-use Rattle.bitpack_sets.proofs.EncodingLaws.{count_stated}
+use Rattle.bitpack_sets.proofs.lemmas.encodings.EncodingLaws.{count_stated}
 use Rattle.bitpack_sets.proofs.id_set.IdSet.parts.Goals as goal
 
 pub returns-clause-count : goal.returns-clause-count

@@ -3,11 +3,10 @@ use Rattle.std.proofs.Common.{◌<◌, ◌^◌, ◌≤◌, ◌∙◌, List, ap, 
 use Rattle.std.proofs.lemmas.Bool.{cases_lt}
 use Rattle.std.proofs.lemmas.Option.{slice_get-get_or}
 use Rattle.bitpack_sets.specs.Opened.{ids}
-use Rattle.bitpack_sets.specs.Reads.{rank}
-use Rattle.bitpack_sets.specs.Sets.{IsRising}
-use Rattle.bitpack_sets.proofs.HalfLaws.{rank_above}
-use Rattle.bitpack_sets.proofs.ReadLaws.{rank_le}
-use Rattle.bitpack_sets.proofs.EncodingLaws.{ids_are_read}
+use Rattle.bitpack_slices.specs.Reads.{rank}
+use Rattle.bitpack_slices.specs.Bodies.{IsRising}
+use Rattle.bitpack_slices.proofs.ForCallers.{rank_above, rank_le}
+use Rattle.bitpack_sets.proofs.lemmas.encodings.EncodingLaws.{ids_are_read}
 use Rattle.bitpack_sets.proofs.id_set.IdSet.seek.Goals as goal
 
 pub returns-then-position-len-clause-found : goal.returns-then-position-len-clause-found

@@ -2,7 +2,7 @@
 use Rattle.std.proofs.Common.{◌-◌, arith, length}
 use Rattle.std.proofs.Math.Nat.{min-le_right}
 use Rattle.bitpack_sets.specs.Opened.{ids}
-use Rattle.bitpack_sets.proofs.EncodingLaws.{ids_are_read}
+use Rattle.bitpack_sets.proofs.lemmas.encodings.EncodingLaws.{ids_are_read}
 use Rattle.bitpack_sets.proofs.ids.Ids.unpack.Goals as goal
 
 pub overflow_add-self : goal.overflow_add-self

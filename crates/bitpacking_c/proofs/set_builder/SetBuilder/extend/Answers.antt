@@ -3,8 +3,8 @@ use borrow.Rule.Slice.PartMut.{put_mid}
 use Rattle.std.proofs.Common.{◌≡◌, ◌+◌, ◌-◌, ℕ, List, ◌++◌, drop, length, take, None, Some, Ok, Err, IfErr, MatchOption, Option, Result, refl, subst, ◌∙◌, ap, arith}
 use Rattle.std.proofs.lemmas.List.{length-append, length-take-le}
 use Rattle.std.proofs.lemmas.Slice.{drop-put_mid, take-put_mid}
-use Rattle.bitpack_sets.specs.declared.set_error.SetError.{SetError}
-use Rattle.bitpack_sets.specs.declared.set_error.SetError.TheVariants.{Short}
+use Rattle.bitpack_slices.specs.declared.set_error.SetError.{SetError}
+use Rattle.bitpack_slices.specs.declared.set_error.SetError.TheVariants.{Short}
 use Rattle.bitpack_sets.specs.Written.{refusal}
 use Rattle.bitpacking_c.proofs.set_builder.SetBuilder.extend.Goals as goal
 

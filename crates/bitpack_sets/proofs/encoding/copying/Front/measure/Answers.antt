@@ -1,8 +1,8 @@
 -- No chunk has ids of both.
 use Rattle.std.proofs.Common.{◌++◌, ℕ, List, length, arith, ap, length-append}
 use Rattle.std.specs.List.{concat}
-use Rattle.bitpack_sets.proofs.FrontEncodings.{concat_both, count_both, parts_most}
-use Rattle.bitpack_sets.proofs.RoomLaws.{bodies_few}
+use Rattle.bitpack_sets.proofs.lemmas.written.FrontEncodings.{concat_both, count_both, parts_most}
+use Rattle.bitpack_sets.proofs.lemmas.encodings.RoomLaws.{bodies_few}
 use Rattle.bitpack_sets.proofs.encoding.copying.Front.measure.Goals as goal
 use Rattle.bitpack_sets.specs.Fronts.{front_ids}
 use Rattle.bitpack_sets.specs.Written.{bodies}

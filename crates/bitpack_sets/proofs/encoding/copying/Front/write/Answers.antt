@@ -1,7 +1,7 @@
 -- The parts of the encoding have their places.
 use Rattle.std.proofs.Common.{◌≡◌, ℕ, ◌+◌, ◌++◌, List, length, ap, sym, arith, ◌∙◌, length-append}
-use Rattle.bitpack_sets.proofs.LongFilled.{chunks_joined, chunks_size}
-use Rattle.bitpack_sets.proofs.RoomLaws.{bodies_few}
+use Rattle.bitpack_sets.proofs.lemmas.written.LongFilled.{chunks_joined, chunks_size}
+use Rattle.bitpack_sets.proofs.lemmas.encodings.RoomLaws.{bodies_few}
 use Rattle.bitpack_sets.proofs.encoding.copying.Front.write.Goals as goal
 use Rattle.bitpack_sets.specs.Fronts.{front_ids}
 use Rattle.bitpack_sets.specs.Varints.{byte_count, number}

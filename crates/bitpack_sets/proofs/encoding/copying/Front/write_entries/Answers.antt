@@ -1,7 +1,7 @@
 -- Each part of the directory begins with that of the chunks that are copied.
 use Rattle.std.proofs.Common.{◌≡◌, ◌++◌, ℕ, List, length, arith, ap, sym, ◌∙◌, refl, length-append}
 use Rattle.std.specs.List.{concat}
-use Rattle.bitpack_sets.proofs.FrontEncodings.{concat_both, ends_split, keys_split, sums_split}
+use Rattle.bitpack_sets.proofs.lemmas.written.FrontEncodings.{concat_both, ends_split, keys_split, sums_split}
 use Rattle.bitpack_sets.proofs.encoding.copying.Front.write_entries.Goals as goal
 use Rattle.bitpack_sets.specs.Fronts.{front_ids}
 use Rattle.bitpack_sets.specs.Written.{bodies}

@@ -1,0 +1,6 @@
+-- The answer of two sets, chunk by chunk, and ids in an array.
+pub mod AnswerLaws
+pub mod CountLaws
+pub mod RetainedLaws
+pub mod StepLaws
+pub mod UnitedLaws

@@ -1,0 +1,7 @@
+-- The definitions of this crate.
+pub mod Folds
+pub mod Operations
+pub mod Pairs
+pub mod Queried
+pub mod Queries
+pub mod Retained

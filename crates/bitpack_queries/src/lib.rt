@@ -1,0 +1,23 @@
+//! Operations on id sets: on two, on many, and trees of them.
+#![tactic(auto)]
+
+mod as_step;
+mod combining;
+mod combining_all;
+mod combining_sets;
+mod folding;
+mod in_place;
+mod pairing;
+mod query;
+mod query_error;
+mod step;
+
+pub use as_step::AsStep;
+pub use combining::{combine_count, combine_to, is_disjoint, is_subset};
+pub use combining_all::{combine_all_count, combine_all_to};
+pub use combining_sets::combine_set;
+pub use in_place::{add, add_to, remove, retain, retain_if};
+pub use query::testing::test_query;
+pub use query::{Query, query_to};
+pub use query_error::QueryError;
+pub use step::Step;

@@ -1,0 +1,5 @@
+-- What the proofs of other crates may cite.
+pub use Rattle.bitpack_sets.proofs.lemmas.encodings.EncodeLaws.{accepted, appended}
+pub use Rattle.bitpack_sets.proofs.lemmas.encodings.EncodingLaws.{ids_are_read}
+pub use Rattle.bitpack_sets.proofs.lemmas.encodings.LongLaws.{rising_below}
+pub use Rattle.bitpack_sets.proofs.lemmas.faults.RefusalLaws.{each_below, set_not_refused}

@@ -1,7 +1,0 @@
--- The words so far are combined.
-use Rattle.std.proofs.Common.{◌*◌}
-use Rattle.bitpack_sets.proofs.CombineLaws.{IsWordsMixed}
-use Rattle.bitpack_sets.proofs.bitmap.combining.combine_slice.Given as goal
-
-abbrev pub invariant-loop-i : goal.invariant-loop-i
-invariant-loop-i l = IsWordsMixed l.operation (4 * l.high) l.i l.fn.words l.words l.others

@@ -1,6 +1,0 @@
--- The bit is in its word.
-use Rattle.bitpack_sets.proofs.BitmapLaws.{test_is}
-use Rattle.bitpack_sets.proofs.bitmap.single_bits.test_bit.Goals as goal
-
-pub returns : goal.returns
-returns c = test_is c.args.words.now c.args.i

@@ -1,8 +1,0 @@
--- The numbers of the high bytes that are left are still to be counted.
-use Rattle.std.proofs.Common.{◌≡◌, ◌+◌, drop, length}
-use Rattle.bitpack_sets.proofs.UnpackLaws.{by_high}
-use Rattle.bitpack_sets.proofs.bitmap.unpacking.count_bitmap.Given as goal
-use Rattle.bitpack_sets.specs.Bitmaps.{has_bit}
-
-abbrev pub invariant-loop-high : goal.invariant-loop-high
-invariant-loop-high l = l.count + length (by_high (has_bit l.words) (drop l.high-index l.highs)) ≡ length (by_high (has_bit l.words) l.highs)

@@ -1,8 +1,0 @@
--- The words so far are counted.
-use Rattle.std.proofs.Common.{◌≡◌, ◌*◌, length}
-use Rattle.bitpack_sets.proofs.bitmap.unpacking.count_bits.Given as goal
-use Rattle.bitpack_sets.specs.Bitmaps.{has_bit}
-use Rattle.bitpack_sets.specs.Operations.{those}
-
-abbrev pub invariant-loop-word : goal.invariant-loop-word
-invariant-loop-word l = l.count ≡ length (those (64 * l.word-index) (has_bit l.bits))

@@ -1,0 +1,3 @@
+-- What the other lemmas speak of, and the worked sets.
+pub mod Words
+pub mod WorkedProofs

@@ -1,0 +1,58 @@
+-- Chunks that are measured one after the other.
+use Rattle.std.proofs.Common.{◌≡◌, ℕ, ◌+◌, ◌-◌, ◌*◌, ◌^◌, ◌<◌, ◌≤◌, List, [], ◌∷◌, length, take, drop, refl, sym, ap, ◌∙◌, arith, subst, length-drop}
+use Rattle.std.specs.List.{concat}
+use Rattle.bitpack_sets.proofs.lemmas.encodings.BodyLaws.{body_blocks, body_numbers, numbers_len}
+use Rattle.bitpack_slices.proofs.ForCallers.{rising_drop, tail_whole}
+use Rattle.bitpack_sets.proofs.lemmas.written.RunLaws.{blocks_len, body_sizes}
+use Rattle.bitpack_slices.specs.Bodies.{IsRising, blocks, numbers, parts}
+use Rattle.bitpack_sets.specs.Sets.{body}
+use Rattle.bitpack_slices.specs.Slices.{slice_len}
+use Rattle.bitpack_sets.specs.Written.{IsRun, bodies, lows, slices}
+
+-- the chunks of what is left are still to be measured
+pub record ChunksLeft (ids left : List ℕ) (bytes : ℕ) : Type 0 where
+  pub rising : IsRising 0 (2 ^ 32) left
+  pub sized : bytes + length (concat (bodies left)) ≡ length (concat (bodies ids))
+  pub small : bytes + 2 * length left ≤ 2 * length ids
+
+pub chunks_more : (ids left : List ℕ) (bytes run added : ℕ) → ChunksLeft ids left bytes → IsRun 65536 left run → added ≡ length (body (lows (take run left)))
+    → added ≤ 2 * run → ChunksLeft ids (take (length left - run) (drop run left)) (bytes + added)
+chunks_more ids left bytes run added before is long few =
+    let f = body_sizes run left is in
+    let h = length-drop run left in
+    let some = is.some in
+    let within = is.within in
+    let sized = before.sized in
+    let small = before.small in
+    subst (λ (rest : List ℕ). ChunksLeft ids rest (bytes + added)) (sym (tail_whole run left))
+    record { rising = rising_drop 0 (2 ^ 32) run left before.rising; sized = omega arith; small = omega arith }
+
+no_bodies : length (concat (bodies [])) ≡ 0
+unfolding parts
+no_bodies = refl
+
+pub chunks_end : (ids left : List ℕ) (bytes : ℕ) → ChunksLeft ids left bytes → length left ≡ 0 → bytes ≡ length (concat (bodies ids))
+chunks_end ids [] bytes before none =
+    let f : length (concat (bodies [])) ≡ 0 = no_bodies in
+    let sized = before.sized in
+    omega arith
+chunks_end ids (x ∷ left) bytes before none = absurd (omega arith)
+
+-- ---- bodies
+
+pub blocks_shorter : (len count size : ℕ) (xs : List ℕ) → 1 + slice_len count + count + size < 2 * len → length xs ≡ len → length (parts 256 xs) ≡ count
+    → length (slices (parts 256 xs)) ≡ size → 1 + slice_len count + count + size ≡ length (body xs)
+blocks_shorter len count size xs less a b c =
+    let e = blocks_len xs in
+    let f = ap slice_len b in
+    let same : 1 + slice_len count + count + size ≡ length (blocks xs) = omega arith in
+    same ∙ sym (ap length (body_blocks xs (omega arith)))
+
+pub numbers_shorter : (len count size : ℕ) (xs : List ℕ) → 2 * len ≤ 1 + slice_len count + count + size → length xs ≡ len → length (parts 256 xs) ≡ count
+    → length (slices (parts 256 xs)) ≡ size → 2 * len ≡ length (body xs)
+numbers_shorter len count size xs less a b c =
+    let e = blocks_len xs in
+    let f = ap slice_len b in
+    let g = numbers_len xs in
+    let same : 2 * len ≡ length (numbers xs) = omega arith in
+    same ∙ sym (ap length (body_numbers xs (omega arith)))

@@ -1,9 +1,0 @@
--- What is left of a query.
-use Rattle.std.specs.Prelude.{ℕ, List, map}
-use Rattle.bitpack_sets.specs.Opened.{ids}
-use Rattle.bitpack_sets.specs.Queries.{answer_of, ids_from}
-use Rattle.bitpack_sets.specs.declared.query.Query.{Query}
-
--- the ids that can still come
-abbrev pub left : Query → List ℕ
-left query = ids_from query.walk.next (answer_of (map ids query.sets.now) query.steps.now)

@@ -1,0 +1,10 @@
+-- The numbers of the words so far are counted.
+use Rattle.std.proofs.Common.{◌≡◌, ◌*◌, length}
+use Rattle.bitpack_slices.proofs.lemmas.slices.SelectionLaws.{passes}
+use Rattle.bitpack_slices.proofs.lemmas.bits.UnpackLaws.{by_high}
+use Rattle.bitpack_slices.proofs.blocks.combining.count_each.Given as goal
+use Rattle.bitpack_slices.specs.Bitmaps.{has_bit}
+use Rattle.bitpack_slices.specs.Operations.{those}
+
+abbrev pub invariant-loop-word : goal.invariant-loop-word
+invariant-loop-word g l = l.count ≡ length (by_high (passes l.operation l.a l.b) (those (64 * l.word) (has_bit l.occur)))

@@ -1,0 +1,87 @@
+-- The numbers of the slices before that of the high byte, and those of its own.
+use Rattle.std.proofs.Common.{◌≡◌, ◌∙◌, ◌+◌, ◌-◌, ◌/◌, ◌%◌, ◌<◌, ◌≤◌, ℕ, List, ap, sym, arith, length, drop, take, get_or}
+use Rattle.std.proofs.lemmas.List.{length-take-le}
+use Rattle.bitpack_slices.proofs.lemmas.bodies.BlockReads.{numbers_few, rank_not_there, rank_there, slice_there}
+use Rattle.bitpack_slices.proofs.lemmas.bits.CountLaws.{bytes_are}
+use Rattle.bitpack_slices.proofs.lemmas.bodies.CutLaws.{slice_cut}
+use Rattle.bitpack_slices.proofs.lemmas.bodies.ReadLaws.{offset_fits, rank_le, rank_less}
+use Rattle.bitpack_slices.proofs.lemmas.bodies.TestLaws.{bytes_taken}
+use Rattle.bitpack_slices.proofs.chunk.parts.Parts.rank.Goals as goal
+use Rattle.bitpack_slices.specs.Reads.{rank}
+use Rattle.bitpack_slices.specs.Slices.{AreSlices, numbers_in, slice_len, slice_numbers, slices_len}
+
+-- the position of the high byte is among the counts
+at_most : (i x : ℕ) (hs counts : List ℕ) → i ≡ rank x hs → length hs ≡ length counts → i ≤ length counts
+at_most i x hs counts e size = let most = rank_le x hs in omega arith
+
+below_counts : (i x : ℕ) (hs counts : List ℕ) → i ≡ rank x hs → rank x hs < length hs → length hs ≡ length counts → i < length counts
+below_counts i x hs counts e less size = omega arith
+
+-- as many numbers as the count says
+own_few : (i offset size : ℕ) (counts bytes : List ℕ) → AreSlices counts bytes → offset ≡ slices_len (take i counts) → size ≡ slice_len (get_or counts i 0 + 1) → i < length counts
+    → length (slice_numbers (get_or counts i 0 + 1) (take (offset + size - offset) (drop offset bytes))) ≡ get_or counts i 0 + 1
+own_few i offset size counts bytes are e f lt =
+    ap (λ (l : List ℕ). length (slice_numbers (get_or counts i 0 + 1) l)) (slice_cut (get_or counts i 0 + 1) offset size (slices_len (take i counts)) bytes e f) ∙ (slice_there i counts bytes are lt).count_is
+
+pub slice_bounds-count_numbers-end : goal.slice_bounds-count_numbers-end
+slice_bounds-count_numbers-end c =
+    let hs : List ℕ = slice_numbers (length c.args.self.counts.now) c.args.self.highs.now in
+    sym (length-take-le c.rank_in_slice-index.result c.args.self.counts.now (at_most c.rank_in_slice-index.result (c.args.number / 256) hs c.args.self.counts.now c.rank_in_slice-index.ensures c.args.self.occur.count_is))
+
+pub returns-then-not-in_slice : goal.returns-then-not-in_slice
+returns-then-not-in_slice c =
+    let hs : List ℕ = slice_numbers (length c.args.self.counts.now) c.args.self.highs.now in
+    c.count_numbers-before.ensures
+    ∙ sym (rank_not_there c.args.number c.rank_in_slice-index.result hs c.args.self.counts.now c.args.self.slices.now c.args.self.occur.count_is c.args.self.occur.rising c.args.self.are c.rank_in_slice-index.ensures
+    (sym c.in_slice.ensures ∙ c.if-not-in_slice.true))
+
+pub offset_of_slice-offset-requires-clause-within : goal.offset_of_slice-offset-requires-clause-within
+offset_of_slice-offset-requires-clause-within c =
+    let few = rank_less (c.args.number / 256) (slice_numbers (length c.args.self.counts.now) c.args.self.highs.now) (sym c.in_slice.ensures ∙ c.if-not-in_slice.false) in
+    let size = c.args.self.occur.count_is in
+    omega (arith, c.rank_in_slice-index.ensures)
+
+pub bounds-self-index : goal.bounds-self-index
+bounds-self-index c =
+    let few = rank_less (c.args.number / 256) (slice_numbers (length c.args.self.counts.now) c.args.self.highs.now) (sym c.in_slice.ensures ∙ c.if-not-in_slice.false) in
+    let size = c.args.self.occur.count_is in
+    omega (arith, c.rank_in_slice-index.ensures)
+
+pub overflow_add-offset : goal.overflow_add-offset
+overflow_add-offset c =
+    let few = rank_less (c.args.number / 256) (slice_numbers (length c.args.self.counts.now) c.args.self.highs.now) (sym c.in_slice.ensures ∙ c.if-not-in_slice.false) in
+    let size = c.args.self.occur.count_is in
+    let fits = offset_fits c.rank_in_slice-index.result c.args.self.counts.now c.args.self.slices.now c.args.self.are (omega (arith, c.rank_in_slice-index.ensures)) in
+    omega (arith, c.offset_of_slice-offset.ensures, c.byte_len-size.ensures)
+
+pub slice_bounds-rank_in_slice-end : goal.slice_bounds-rank_in_slice-end
+slice_bounds-rank_in_slice-end c =
+    let few = rank_less (c.args.number / 256) (slice_numbers (length c.args.self.counts.now) c.args.self.highs.now) (sym c.in_slice.ensures ∙ c.if-not-in_slice.false) in
+    let size = c.args.self.occur.count_is in
+    let fits = offset_fits c.rank_in_slice-index.result c.args.self.counts.now c.args.self.slices.now c.args.self.are (omega (arith, c.rank_in_slice-index.ensures)) in
+    omega (arith, c.offset_of_slice-offset.ensures, c.byte_len-size.ensures)
+
+pub overflow_add-result : goal.overflow_add-result
+overflow_add-result c =
+    let index : ℕ = c.rank_in_slice-index.result in
+    let counts : List ℕ = c.args.self.counts.now in
+    let are = bytes_taken index counts (bytes_are counts c.args.self.are_bytes) in
+    let most = at_most index (c.args.number / 256) (slice_numbers (length counts) c.args.self.highs.now) counts c.rank_in_slice-index.ensures c.args.self.occur.count_is in
+    let few = numbers_few (take index counts) are in
+    let long = length-take-le index counts most in
+    let less = rank_le (c.args.number % 256) (slice_numbers (get_or counts index 0 + 1) (take (c.offset_of_slice-offset.result + c.byte_len-size.result - c.offset_of_slice-offset.result) (drop c.offset_of_slice-offset.result c.args.self.slices.now))) in
+    let own = own_few index c.offset_of_slice-offset.result c.byte_len-size.result counts c.args.self.slices.now c.args.self.are c.offset_of_slice-offset.ensures c.byte_len-size.ensures
+    (let small = rank_less (c.args.number / 256) (slice_numbers (length counts) c.args.self.highs.now) (sym c.in_slice.ensures ∙ c.if-not-in_slice.false) in let size = c.args.self.occur.count_is in omega (arith, c.rank_in_slice-index.ensures)) in
+    let byte = c.args.self.are_bytes index in
+    omega (arith, c.count_numbers-before.ensures, c.rank_in_slice.ensures)
+
+pub returns : goal.returns
+returns c =
+    let hs : List ℕ = slice_numbers (length c.args.self.counts.now) c.args.self.highs.now in
+    let index : ℕ = c.rank_in_slice-index.result in
+    let counts : List ℕ = c.args.self.counts.now in
+    let lt = (let small = rank_less (c.args.number / 256) hs (sym c.in_slice.ensures ∙ c.if-not-in_slice.false) in let size = c.args.self.occur.count_is in below_counts index (c.args.number / 256) hs counts c.rank_in_slice-index.ensures small size) in
+    let same = slice_cut (get_or counts index 0 + 1) c.offset_of_slice-offset.result c.byte_len-size.result (slices_len (take index counts)) c.args.self.slices.now c.offset_of_slice-offset.ensures c.byte_len-size.ensures in
+    ap (λ (n : ℕ). n + c.rank_in_slice.result) c.count_numbers-before.ensures
+    ∙ ap (λ (n : ℕ). numbers_in (take index counts) + n) (c.rank_in_slice.ensures ∙ ap (λ (l : List ℕ). rank (c.args.number % 256) (slice_numbers (get_or counts index 0 + 1) l)) same)
+    ∙ sym (rank_there c.args.number index hs counts c.args.self.slices.now c.args.self.occur.count_is c.args.self.occur.rising c.args.self.are lt c.rank_in_slice-index.ensures (sym c.in_slice.ensures ∙ c.if-not-in_slice.false))

@@ -1,0 +1,6 @@
+-- Slices of the numbers 0 to 255: what tells one, what it matches, and how it is selected from.
+pub mod MatchLaws
+pub mod MemberLaws
+pub mod SelectionLaws
+pub mod SliceLaws
+pub mod SumsLaws

@@ -1,0 +1,14 @@
+-- The definitions of this crate.
+pub mod Bitmaps
+pub mod Errors
+pub mod Faults
+pub mod Follows
+pub mod Lists
+pub mod Lows
+pub mod Operations
+pub mod Parts
+pub mod Props
+pub mod Reads
+pub mod Selections
+pub mod Bodies
+pub mod Slices

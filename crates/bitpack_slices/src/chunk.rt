@@ -1,0 +1,113 @@
+//! Bodies: the numbers of a chunk as numbers of two bytes, or as blocks.
+//!
+//! FORMAT.md, "Chunks":
+//!
+//! ```text
+//! numbers    k integers of two bytes, increasing
+//! blocks     r - 1 | slice of the r high bytes that occur | r counts, each less 1 | r slices of low bytes
+//! ```
+
+pub mod parts;
+pub mod reading;
+pub mod search;
+pub mod testing;
+
+ghost use Rattle.std.specs.Prelude.{◌≡◌, ℕ, ◌+◌, ◌^◌, ◌<◌, ◌≤◌, drop, length, map, slice_index, take};
+ghost use Rattle.bitpack_slices.specs.Bitmaps.{Represents, has_bit, has_high};
+ghost use Rattle.bitpack_slices.specs.Bodies.{IsRising};
+ghost use Rattle.bitpack_slices.specs.Lows.{AreLows, lows};
+ghost use Rattle.bitpack_slices.specs.Reads.{has, rank};
+
+use crate::bitmap::loading::{integer_highs, load_integers};
+use crate::blocks::loading::load_blocks;
+use crate::chunk::parts::Parts;
+use crate::chunk::reading::unpack_numbers_from;
+use crate::chunk::search::{in_numbers, number_at, rank_in_numbers};
+
+/// The numbers of a chunk: the low 16 bits of its ids.
+#[derive(Clone, Copy)]
+pub enum Lows<'a> {
+    /// Two bytes for each.
+    Numbers(&'a [u8]),
+    /// Blocks of them.
+    Blocks(&'a [u8]),
+}
+
+impl<'a> Lows<'a> {
+    /// Whether a number is among them.
+    #[inline(always)]
+    pub fn contains(self, number: u16) -> bool
+        requires { AreLows self }
+        ensures { result ≡ has number (lows self.entry) }
+    {
+        match self {
+            Lows::Numbers(body) => in_numbers(body, number),
+            Lows::Blocks(body) => Parts::new(body).contains(number),
+        }
+    }
+
+    /// How many are below a number.
+    #[inline(always)]
+    pub fn rank(self, number: u16) -> usize
+        requires { AreLows self }
+        ensures { result ≡ rank number (lows self.entry) }
+    {
+        match self {
+            Lows::Numbers(body) => rank_in_numbers(body, number),
+            Lows::Blocks(body) => Parts::new(body).rank(number),
+        }
+    }
+
+    /// The number at a position.
+    #[inline(always)]
+    pub fn select(self, position: usize) -> u16
+        requires are { AreLows self }
+        requires within { position < length (lows self) }
+        ensures { result ≡ slice_index (lows self.entry) position }
+    {
+        match self {
+            Lows::Numbers(body) => number_at(body, position),
+            Lows::Blocks(body) => Parts::new(body).select(position),
+        }
+    }
+
+    /// Their high bytes, as bits.
+    #[inline(always)]
+    pub fn highs(self) -> [u64; 4]
+        requires { AreLows self }
+        ensures { (h : ℕ) → h < 256 → has_bit result h ≡ has_high h (lows self.entry) }
+    {
+        match self {
+            Lows::Numbers(body) => integer_highs(2, body),
+            Lows::Blocks(body) => Parts::new(body).high_bits(),
+        }
+    }
+
+    /// Loads those that have these high bytes into a bitmap.
+    #[inline(always)]
+    pub fn load(self, highs: &[u32], words: &mut [u64; 1024])
+        requires are { AreLows self }
+        requires highs { IsRising 0 256 highs.now }
+        ensures { Represents highs.now words.new (lows self.entry) }
+    {
+        match self {
+            Lows::Numbers(body) => load_integers(2, body, highs, words),
+            Lows::Blocks(body) => load_blocks(body, highs, words),
+        }
+    }
+
+    /// Writes those from a position on, as many as there is room for, each with `base` added.
+    #[inline(always)]
+    pub fn unpack_from(self, base: u32, from: usize, out: &mut [u32])
+        requires are { AreLows self }
+        requires fits { base + 65536 ≤ 2 ^ 32 }
+        requires begin { from < length (lows self) }
+        requires within { from + length out.old ≤ length (lows self) }
+        ensures { out.new ≡ map (λ i. base + i) (take (length out.old) (drop from (lows self.entry))) }
+    {
+        match self {
+            Lows::Numbers(body) => unpack_numbers_from(body, base, from, out),
+            Lows::Blocks(body) => Parts::new(body).unpack_from(base, from, out),
+        }
+    }
+}

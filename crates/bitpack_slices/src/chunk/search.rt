@@ -1,0 +1,143 @@
+//! Looks numbers up in bodies.
+//! FORMAT.md, "Chunks".
+
+ghost use Rattle.std.specs.Prelude.{◌≡◌, ◌+◌, ◌*◌, ◌/◌, ◌^◌, ◌<◌, ◌≤◌, ◌++◌, drop, length, map, slice_index, take};
+ghost use Rattle.bitpack_slices.specs.Reads.{has, rank};
+ghost use Rattle.bitpack_slices.specs.Bodies.{IsRising};
+ghost use Rattle.bitpack_slices.specs.Slices.{numbers_in, pairs_of, slices_len};
+
+use crate::chunk::parts::Parts;
+use crate::slice::byte_len;
+use crate::slice::search::{in_slice, rank_in_slice, select_in_slice};
+use crate::slice::testing::count_numbers;
+
+impl<'a> Parts<'a> {
+    ghost use Rattle.bitpack_slices.specs.Parts.{numbers_in_parts};
+
+    /// Whether the body has this number.
+    #[inline(always)]
+    pub(crate) fn contains(self, number: u16) -> bool
+        ensures { result ≡ has number (numbers_in_parts self.entry) }
+    {
+        let high = (number / 256) as u8;
+        if !in_slice(self.counts.len(), self.highs, high) {
+            return false;
+        }
+        let index = rank_in_slice(self.counts.len(), self.highs, high);
+        let offset = offset_of_slice(self.counts, index);
+        let count = self.counts[index] as usize + 1;
+        let size = byte_len(count);
+        in_slice(
+            count,
+            &self.slices[offset..offset + size],
+            (number % 256) as u8,
+        )
+    }
+
+    /// How many numbers are below `number`.
+    #[inline(always)]
+    pub(crate) fn rank(self, number: u16) -> usize
+        ensures { result ≡ rank number (numbers_in_parts self.entry) }
+    {
+        let high = (number / 256) as u8;
+        let index = rank_in_slice(self.counts.len(), self.highs, high);
+        let before = count_numbers(&self.counts[..index]);
+        if !in_slice(self.counts.len(), self.highs, high) {
+            return before;
+        }
+        let offset = offset_of_slice(self.counts, index);
+        let count = self.counts[index] as usize + 1;
+        let size = byte_len(count);
+        before
+            + rank_in_slice(
+                count,
+                &self.slices[offset..offset + size],
+                (number % 256) as u8,
+            )
+    }
+
+    /// The number at this position.
+    #[inline(always)]
+    pub(crate) fn select(self, position: usize) -> u16
+        requires within { position < numbers_in self.counts.now }
+        ensures { result ≡ slice_index (numbers_in_parts self.entry) position }
+    {
+        let (index, left) = slice_of(self.counts, position);
+        let offset = offset_of_slice(self.counts, index);
+        let count = self.counts[index] as usize + 1;
+        let size = byte_len(count);
+        let high = select_in_slice(self.counts.len(), self.highs, index) as u16;
+        256 * high + select_in_slice(count, &self.slices[offset..offset + size], left) as u16
+    }
+}
+
+/// The slice that has the number at a position, and the position of the number in it. Each count less 1 is given.
+pub(crate) fn slice_of(counts: &[u8], position: usize) -> (usize, usize)
+    requires { position < numbers_in counts.now }
+    ensures slice { result.0 < length counts.now }
+    ensures own { result.1 ≤ slice_index counts.now result.0 }
+    ensures position { numbers_in (take result.0 counts.now) + result.1 ≡ position }
+{
+    let mut index = 0;
+    let mut left = position;
+    while left > counts[index] as usize {
+        left -= counts[index] as usize + 1;
+        index += 1;
+    }
+    (index, left)
+}
+
+/// The index where a slice begins among slices end to end. Each count less 1 is given.
+pub(crate) fn offset_of_slice(counts: &[u8], index: usize) -> usize
+    requires within { index ≤ length counts.now }
+    requires few { length counts.now ≤ 256 }
+    ensures { result ≡ slices_len (take index counts.now) }
+{
+    let mut offset = 0;
+    for i in 0..index {
+        offset += byte_len(counts[i] as usize + 1);
+    }
+    offset
+}
+
+/// The number at this position of a body of numbers.
+#[inline(always)]
+pub fn number_at(body: &[u8], position: usize) -> u16
+    requires { position < length body.now / 2 }
+    ensures { result ≡ slice_index (pairs_of body.now) position }
+{
+    let bytes = &body[2 * position..2 * position + 2];
+    u16::from_le_bytes([bytes[0], bytes[1]])
+}
+
+/// How many numbers of a body of numbers are below this one, by halves.
+pub fn rank_in_numbers(body: &[u8], number: u16) -> usize
+    requires { IsRising 0 65536 (pairs_of body.now) }
+    ensures { result ≡ rank number (pairs_of body.now) }
+{
+    let mut low = 0;
+    let mut left = body.len() / 2;
+    while left > 0 {
+        let half = left / 2;
+        if number_at(body, low + half) < number {
+            low += half + 1;
+            left -= half + 1;
+        } else {
+            left = half;
+        }
+    }
+    low
+}
+
+/// Whether a body of numbers has this one.
+pub fn in_numbers(body: &[u8], number: u16) -> bool
+    requires { IsRising 0 65536 (pairs_of body.now) }
+    ensures { result ≡ has number (pairs_of body.now) }
+{
+    let position = rank_in_numbers(body, number);
+    if position < body.len() / 2 {
+        number_at(body, position) == number
+    } else {
+        false
+    }
+}

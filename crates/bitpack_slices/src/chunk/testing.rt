@@ -1,0 +1,124 @@
+//! Tests bodies.
+//! FORMAT.md, "Chunks", and rule 12 of "Faults of a set".
+
+ghost use Rattle.std.specs.Prelude.{◌≡◌, ◌≢◌, ◌+◌, ◌*◌, ◌/◌, ◌^◌, ◌<◌, ◌≤◌, ℕ, length, None};
+ghost use Rattle.std.specs.Bool.{Decides};
+ghost use Rattle.bitpack_slices.specs.Errors.{Finds};
+ghost use Rattle.bitpack_slices.specs.Faults.{body_fault};
+ghost use Rattle.bitpack_slices.specs.Bodies.{blocks};
+ghost use Rattle.bitpack_slices.specs.Slices.{IsBlocks, pairs_of};
+
+use crate::chunk::search::number_at;
+use crate::set_error::SetError;
+use crate::slice::byte_len;
+use crate::slice::testing::{are_slices, count_numbers, is_slice};
+
+/// Tests the body of a chunk of `count` numbers, after `position` others.
+#[tactic(auto, unfolding(crate::specs::Faults::body_fault))]
+pub fn test_body(chunk: usize, position: usize, count: usize, body: &[u8]) -> Result<(), SetError>
+    requires some { 1 ≤ count }
+    requires few { count ≤ 65536 }
+    requires position { position ≤ 2 ^ 32 }
+    ensures { Finds result (body_fault chunk position count body.now) }
+{
+    if body.len() != 2 * count {
+        if is_blocks(count, body) {
+            return Ok(());
+        }
+        return Err(SetError::BadBody(chunk));
+    }
+    if let Some(position) = first_fall(position, body) {
+        return Err(SetError::NotSorted(position));
+    }
+    if blocks_len(body) < 2 * count {
+        return Err(SetError::LooseBody(chunk));
+    }
+    Ok(())
+}
+
+/// The first position whose number is not above the one before, in a body of numbers whose first one has this position.
+fn first_fall(position: usize, body: &[u8]) -> Option<usize>
+    requires few { length body.now ≤ 131072 }
+    requires position { position ≤ 2 ^ 32 }
+    ensures { result ≡ Rattle.bitpack_slices.specs.Slices.first_fall position (pairs_of body.now) }
+{
+    for index in 1..body.len() / 2 {
+        if number_at(body, index) <= number_at(body, index - 1) {
+            return Some(position + index);
+        }
+    }
+    None
+}
+
+/// A slice that is counted: its high byte, how many numbers it has; and how many slices there are with it, and how many bytes the others
+/// have.
+#[derive(Clone, Copy)]
+struct Run {
+    high: u16,
+    count: usize,
+    slices: usize,
+    size: usize,
+}
+
+/// How many bytes the numbers of a body of numbers would take as blocks. It counts from the last number on.
+fn blocks_len(body: &[u8]) -> usize
+    requires some { 2 ≤ length body.now }
+    requires few { length body.now ≤ 131072 }
+    ensures { result ≡ length (blocks (pairs_of body.now)) }
+{
+    let mut left = body.len() / 2 - 1;
+    let mut run = Run {
+        high: number_at(body, left) / 256,
+        count: 1,
+        slices: 1,
+        size: 0,
+    };
+    while left > 0 {
+        left -= 1;
+        run = with_high(run, number_at(body, left) / 256);
+    }
+    1 + byte_len(run.slices) + run.slices + run.size + byte_len(run.count)
+}
+
+/// A number more, with this high byte, without a branch.
+#[inline(always)]
+fn with_high(run: Run, high: u16) -> Run
+    requires count { run.count ≤ 65536 }
+    requires slices { run.slices ≤ 65536 }
+    requires size { run.size ≤ 2 ^ 32 }
+    ensures same { run.high ≡ high → result ≡ record run { count = run.count + 1 } }
+    ensures other { run.high ≢ high → result
+        ≡ record { high = high; count = 1; slices = run.slices + 1; size = run.size + Rattle.bitpack_slices.specs.Slices.slice_len run.count } }
+{
+    let same = (run.high == high) as usize;
+    Run {
+        high,
+        count: run.count * same + 1,
+        slices: run.slices + 1 - same,
+        size: run.size + byte_len(run.count) * (1 - same),
+    }
+}
+
+/// Whether bytes are the blocks of `count` numbers.
+pub(crate) fn is_blocks(count: usize, body: &[u8]) -> bool
+    ensures { Decides result (IsBlocks count body.now) }
+{
+    if body.is_empty() {
+        return false;
+    }
+    let many = body[0] as usize + 1;
+    let size = byte_len(many);
+    if body.len() < 1 + size + many {
+        return false;
+    }
+    let highs = &body[1..1 + size];
+    let counts = &body[1 + size..1 + size + many];
+    let slices = &body[1 + size + many..];
+    if !is_slice(many, highs) {
+        return false;
+    }
+    if count_numbers(counts) != count {
+        return false;
+    }
+    are_slices(counts, slices)
+}

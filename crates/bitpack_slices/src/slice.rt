@@ -1,0 +1,84 @@
+//! Slices: some of the numbers 0 to 255, as bytes.
+//!
+//! FORMAT.md, "Chunks":
+//!
+//! ```text
+//! c below 32     c bytes, increasing
+//! c below 256    32 bytes: bit i is 1 if the slice has i
+//! c = 256        no byte
+//! ```
+
+pub(crate) mod matches;
+pub(crate) mod positions;
+pub(crate) mod reading;
+mod rows;
+pub(crate) mod search;
+pub(crate) mod selecting;
+pub(crate) mod testing;
+pub mod writing;
+
+ghost use Rattle.std.specs.Prelude.{◌≡◌};
+ghost use Rattle.std.proofs.Props.{props};
+ghost use Rattle.bitpack_slices.specs.Props.{rising_prop};
+ghost use Rattle.bitpack_slices.specs.Slices.{HasSlice, slice_len};
+
+use crate::bitmap::single_bits::slice_bits;
+use crate::slice::reading::unpack_from;
+
+/// How many bytes the slice of `count` numbers has.
+#[inline(always)]
+pub fn byte_len(count: usize) -> usize
+    ensures { result ≡ slice_len count }
+{
+    if count < 32 {
+        count
+    } else if count < 256 {
+        32
+    } else {
+        0
+    }
+}
+
+/// One of several slices.
+#[derive(Clone, Copy)]
+pub struct Slice<'a> {
+    // The bytes of all, where this one begins, and how many numbers it has, 0 if there is no such slice.
+    pub(crate) slices: &'a [u8],
+    pub(crate) start: usize,
+    pub(crate) count: usize,
+    ghost there: { HasSlice slices.now start count } by { Prim.hlevel (props, rising_prop) },
+}
+
+impl<'a> Slice<'a> {
+    ghost use Rattle.std.specs.Prelude.{◌≡◌, ℕ, ◌+◌, ◌^◌, ◌<◌, ◌≤◌, ◌++◌, length, map, take};
+    ghost use Rattle.bitpack_slices.specs.Bitmaps.{has_bit};
+    ghost use Rattle.bitpack_slices.specs.Reads.{has};
+    ghost use Rattle.bitpack_slices.specs.Selections.{bytes_of, numbers_at};
+
+    /// The bytes of the slice.
+    #[inline(always)]
+    fn bytes(self) -> &'a [u8]
+        ensures { result.now ≡ bytes_of self.entry }
+    {
+        &self.slices[self.start..self.start + byte_len(self.count)]
+    }
+
+    /// The numbers of the slice, as bits.
+    #[inline(always)]
+    pub(crate) fn bits(self) -> [u64; 4]
+        ensures { (i : ℕ) → i < 256 → has_bit result i ≡ has i (numbers_at self.entry) }
+    {
+        slice_bits(self.count, self.bytes())
+    }
+
+    /// Writes the numbers of the slice, each with `base` added. Returns the index after the last. Up to 31 items from there on may change too.
+    #[inline(always)]
+    pub(crate) fn unpack(self, base: u32, out: &mut [u32], at: usize) -> usize
+        requires fits { base + 256 ≤ 2 ^ 32 }
+        requires room { at + self.count ≤ length out.old }
+        ensures end { result ≡ at + self.entry.count }
+        ensures values { take result out.new ≡ take at out.old ++ map (λ i. base + i) (numbers_at self.entry) }
+    {
+        unpack_from(self.count, self.slices, self.start, base, out, at)
+    }
+}
