@@ -15,19 +15,24 @@ No other line may stand there. Then changes, each of whole lines:
     new lines                 none: the old ones are taken out
     >>>>
 
-The folders of OF_SCRIPTS have wrong changes of the same form for the scripts of scripts/lint/. They have no module and no `unproved:`; each
-`refused: TEXT` is in a fault that the script finds then, and no fault is without one.
+The folders of OF_SCRIPTS are named for scripts, and have wrong changes of the same form that these must see. They have no module and no
+`unproved:`. For a script of scripts/lint/ each `refused: TEXT` is in a fault that it finds then, and no fault is without one. The scripts of
+OF_TESTS are in scripts/test/. Their edits name no claim, and in place of texts
+    fails: TEST               a test that must fail, as the script names it
 """
 
 import dataclasses
 import glob
+import os
 import re
 import sys
 
 from common import ROOT, source
+from files import bytes_of, written
 
 FOLDER = "scripts/mutate/edits"
-OF_SCRIPTS = {"claims", "clauses", "doors", "english", "examples", "pages", "signatures", "sources"}
+OF_TESTS = {"number_files", "postgres", "python", "rust", "search", "sqlite"}
+OF_SCRIPTS = {"claims", "clauses", "doors", "english", "examples", "pages", "signatures", "sources"} | OF_TESTS
 CHANGE = re.compile(r"^<<<< (\S+)\n((?:.*\n)*?)(?:====\n((?:.*\n)*?))?(?:>>>>$|\Z)", re.M)
 
 
@@ -38,6 +43,7 @@ class Edit:
     breaks: str = ""
     unproved: dict = dataclasses.field(default_factory=dict)  # by function, the goals that must be refused
     refused: list = dataclasses.field(default_factory=list)  # texts
+    fails: list = dataclasses.field(default_factory=list)  # tests
     changes: list = dataclasses.field(default_factory=list)  # (path, old lines, new lines)
 
     @property
@@ -61,22 +67,22 @@ def read_edit(path, text):
         if word == "unproved":
             function, _, goals = rest.partition(": ")
             edit.unproved[function] = goals.split()
-        elif word == "refused":
-            edit.refused.append(rest)
+        elif word == ("fails" if edit.crate in OF_TESTS else "refused"):
+            getattr(edit, word).append(rest)
         elif word == "claim" and not edit.claims:
             edit.claims = rest.split()
         elif word == "breaks" and not edit.breaks:
             edit.breaks = rest
         else:
             sys.exit(f"{path}: no header line of an edit: {line}")
-    if not edit.changes or not (edit.unproved or edit.refused):
+    if not edit.changes or not (edit.fails if edit.crate in OF_TESTS else edit.unproved or edit.refused):
         sys.exit(f"{path}: an edit without a change, or that nothing refuses")
     return edit
 
 
 def edits_in(folder):
     """The edits of a folder of scripts/mutate/edits/ and those below it, by name."""
-    found = glob.glob(f"{folder}/**/*.edit", root_dir=f"{ROOT}/{FOLDER}", recursive=True)
+    found = glob.glob(f"{folder}/**/*.edit", root_dir=f"{ROOT}/{FOLDER}", recursive=True) or sys.exit(f"{FOLDER}/{folder} has no edit")
     return sorted((read_edit(it[:-5], source(f"{FOLDER}/{it}")) for it in found), key=lambda it: it.name)
 
 
@@ -95,3 +101,22 @@ def changed(text, path, old, new):
     if len(found) != 1:
         return text, f"its lines are in {path} {len(found)} times, and not once"
     return pattern_of(old).sub(lambda _: block, text, count=1), None
+
+
+def texts_after(edits, text_of):
+    """The texts of files after all changes of some edits, by path, and why not, if one does not fit. `text_of` returns the text of a file before
+    them, or None if there is none."""
+    texts = {}
+    for path, old, new in (it for edit in edits for it in edit.changes):
+        texts[path], why = changed(texts[path] if path in texts else text_of(path), path, old, new)
+        if why:
+            return texts, why
+    return texts, None
+
+
+def apply(room, *edits):
+    """Makes all changes of some edits in a copy. Returns why not, if one does not fit."""
+    texts, why = texts_after(edits, lambda path: bytes_of(f"{room}/{path}").decode() if os.path.exists(f"{room}/{path}") else None)
+    if not why:
+        written(room, texts)
+    return why

@@ -39,22 +39,6 @@ MOST = 34
 KEPT = "out/kept"
 
 
-def apply(room, edit):
-    """Makes the changes of an edit in a copy. Returns why not, if one does not fit."""
-    for path, old, new in edit.changes:
-        full, before = f"{room}/{path}", None
-        if os.path.exists(full):
-            with open(full, encoding="utf-8") as file:
-                before = file.read()
-        after, why = changes.changed(before, path, old, new)
-        if why:
-            return why
-        os.makedirs(os.path.dirname(full), exist_ok=True)
-        with open(full, "w", encoding="utf-8") as file:
-            file.write(after)
-    return None
-
-
 def changes_below(crate, edits):
     """Whether the edits change a crate below theirs."""
     return any(not path.startswith(f"crates/{crate}/") for edit in edits for path, _, _ in edit.changes)
@@ -131,12 +115,7 @@ def text_of(path):
 
 def can_follow(edit, other):
     """Whether the changes of the other fit after those of the edit."""
-    texts = {}
-    for path, old, new in [*edit.changes, *other.changes]:
-        texts[path], why = changes.changed(texts[path] if path in texts else text_of(path), path, old, new)
-        if why:
-            return False
-    return True
+    return not changes.texts_after([edit, other], text_of)[1]
 
 
 def changes_a_clause(edit):
@@ -162,7 +141,7 @@ def are_apart(edit, other):
 def tried(room, crate, edits, whole):
     """Tries the edits in one check. Returns by name why each is not refused as it must be, or None; the names of those that may be later, since
     they wait for another; and what is wrong with the check as a whole: None if it ended without a verdict, and then all may be later."""
-    whys = {edit.name: apply(room, edit) for edit in edits}
+    whys = {edit.name: changes.apply(room, edit) for edit in edits}
     status, said = check(room, crate, edits, whole)
     run("git", "checkout", "--quiet", "--", ".", folder=room)
     run("git", "clean", "--quiet", "-d", "--force", "--exclude=out", folder=room)
@@ -278,7 +257,7 @@ def main():
     every = claims.edits_of_crates()
     edits = [it for it in every if not wanted or any(word in [it.name, *it.claims] or it.path.startswith(f"{word}/") for word in wanted)]
     by_crate = {crate: [it for it in edits if it.crate == crate] for crate in sorted({it.crate for it in edits})}
-    sums = {crate: record.sum_of(crate) for crate in by_crate}
+    sums = record.sums_of(by_crate)
     if not wanted and "--all" not in asked:
         by_crate = record.chosen(by_crate, sums, record.known(), record.commit())
     count = collections.Counter(it.crate for it in every)
@@ -288,7 +267,9 @@ def main():
     with tempfile.TemporaryDirectory(prefix="unproved-") as top:
         rooms = Rooms(top, whole)
         rooms.try_all(by_crate)
-    record.add({crate: sums[crate] for crate in whole if not rooms.faults[crate] and sums[crate] == record.sum_of(crate)})
+    refused = {crate: its for crate, its in by_crate.items() if not rooms.faults[crate]}
+    now = record.sums_of(refused)
+    record.add({name: it for name, it in now.items() if it == sums[name] and (name not in refused or name in whole)})
     failed = [it for its in rooms.faults.values() for it in its]
     print("".join(f"{it}\n" for it in failed), end="")
     tried_now = sum(map(len, by_crate.values()))
