@@ -1,6 +1,7 @@
 /* From the bytes of a value to an opened set, from ids to bytes, and the binary form. */
 #include "idset.h"
 
+#include "access/detoast.h"
 #include "access/xlog.h"
 #include "libpq/pqformat.h"
 #include "nodes/primnodes.h"
@@ -14,11 +15,13 @@ extern PGDLLIMPORT bool ignore_checksum_failure;
 /* The longest text of a value, in bytes. A row with it still has room for others in the 1 GB that PostgreSQL gives a line of COPY. */
 enum { MAX_TEXT = 1000000000, LONGEST_ID = 11 };
 
-/* A set that was opened in an earlier call of a query, over a copy of its bytes. */
+/* A set that was opened in an earlier call of a query, over a copy of its bytes. If the value is in TOAST, `pointer` says where; then a value
+ * that came only once has no copy yet. */
 typedef struct {
     bitpacking_set set;
     struct varlena *value;
-    bool constant;
+    bool constant, stored;
+    struct varatt_external pointer;
 } kept_set;
 
 /* A text of the library without the point at its end. */
@@ -101,38 +104,77 @@ static Node *argument_node(FmgrInfo *call, int number)
     return number < list_length(nodes) ? list_nth(nodes, number) : NULL;
 }
 
-/* Opens an argument and keeps the set, and a copy of its bytes, for the next call. A call has at most two sets. */
-static bitpacking_set opened_to_keep(FmgrInfo *call, int number, struct varlena *value, bool constant)
+/* What is kept of an argument. A call has at most two sets. */
+static kept_set *kept_of(FmgrInfo *call, int number)
 {
-    kept_set *kept;
-    struct varlena *before;
-
-    opened(value);
     if (!call->fn_extra)
-        call->fn_extra = MemoryContextAllocZero(call->fn_mcxt, 2 * sizeof *kept);
-    kept = (kept_set *)call->fn_extra + number;
-    before = kept->value;
+        call->fn_extra = MemoryContextAllocZero(call->fn_mcxt, 2 * sizeof(kept_set));
+    return (kept_set *)call->fn_extra + number;
+}
+
+/* Frees what is kept of an argument. */
+static void forget(kept_set *kept)
+{
+    struct varlena *before = kept->value;
+
     kept->value = NULL;
     if (before)
         pfree(before);
-    before = MemoryContextAlloc(call->fn_mcxt, VARSIZE_ANY(value));
-    memcpy(before, value, VARSIZE_ANY(value));
-    *kept = (kept_set){opened_tested(before), before, constant};
+}
+
+/* Opens an argument and keeps the set, and a copy of its bytes, for the next call. */
+static bitpacking_set opened_to_keep(FmgrInfo *call, int number, struct varlena *value, bool constant)
+{
+    kept_set *kept = kept_of(call, number);
+    struct varlena *copy;
+
+    opened(value);
+    forget(kept);
+    copy = MemoryContextAlloc(call->fn_mcxt, VARSIZE_ANY(value));
+    memcpy(copy, value, VARSIZE_ANY(value));
+    *kept = (kept_set){.set = opened_tested(copy), .value = copy, .constant = constant};
     return kept->set;
 }
 
-/* Opens an argument. The set of a constant is opened once for all rows of a query. A parameter is compared with the one before, since a
- * function may call with another. */
+/* Opens an argument in TOAST. It is kept if it comes a second time in a row, so a scan of many sets copies none. The bytes at a pointer never
+ * change while a query may see them, and PostgreSQL gives the number of a removed value to another one after four billion others. */
+static bitpacking_set opened_stored(FmgrInfo *call, int number, struct varlena *value)
+{
+    kept_set *kept = kept_of(call, number);
+    struct varatt_external pointer;
+    bitpacking_set set;
+    bool again;
+
+    VARATT_EXTERNAL_GET_POINTER(pointer, value);
+    again = kept->stored && memcmp(&pointer, &kept->pointer, sizeof pointer) == 0;
+    if (again && kept->value)
+        return kept->set;
+    value = PG_DETOAST_DATUM_PACKED(PointerGetDatum(value));
+    if (again) {
+        set = opened_to_keep(call, number, value, false);
+    } else {
+        set = opened(value);
+        forget(kept);
+    }
+    kept->stored = true;
+    kept->pointer = pointer;
+    return set;
+}
+
+/* Opens an argument. The set of a constant, and one in TOAST, is opened once for all rows of a query. A parameter is compared with the one
+ * before, since a function may call with another. */
 bitpacking_set opened_argument(FunctionCallInfo fcinfo, int number)
 {
     FmgrInfo *call = fcinfo->flinfo;
     Node *node = call ? argument_node(call, number) : NULL;
-    bool constant = node && IsA(node, Const), parameter = node && IsA(node, Param) && ((Param *)node)->paramkind == PARAM_EXTERN;
-    kept_set *kept = (constant || parameter) && call->fn_extra ? (kept_set *)call->fn_extra + number : NULL;
+    bool constant = node && IsA(node, Const), parameter = node && IsA(node, Param);
+    kept_set *kept = (constant || parameter) && call->fn_extra ? kept_of(call, number) : NULL;
     struct varlena *value;
 
     if (kept && kept->value && kept->constant)
         return kept->set;
+    if (call && VARATT_IS_EXTERNAL_ONDISK(PG_GETARG_POINTER(number)))
+        return opened_stored(call, number, (struct varlena *)PG_GETARG_POINTER(number));
     value = PG_GETARG_VARLENA_PP(number);
     if (kept && kept->value && VARSIZE_ANY(value) == VARSIZE_ANY(kept->value) && memcmp(value, kept->value, VARSIZE_ANY(value)) == 0)
         return kept->set;
@@ -181,11 +223,11 @@ Datum idset_of_bytea(PG_FUNCTION_ARGS)
     PG_RETURN_POINTER(value);
 }
 
-/* The bytes: the cast to bytea, and what is sent in the binary form. */
+/* A copy of the bytes: the cast to bytea, and what is sent in the binary form. Replication frees it. */
 PG_FUNCTION_INFO_V1(idset_send);
 Datum idset_send(PG_FUNCTION_ARGS)
 {
-    struct varlena *value = PG_GETARG_VARLENA_PP(0);
+    struct varlena *value = (struct varlena *)PG_GETARG_BYTEA_P_COPY(0);
 
     opened(value);
     PG_RETURN_POINTER(value);

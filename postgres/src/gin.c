@@ -5,7 +5,7 @@
 #include "access/stratnum.h"
 #include "miscadmin.h"
 
-/* The operators of the class, by their numbers in idset--1.0.sql. */
+/* The operators of the class, by their numbers in the SQL of the extension. */
 enum { OVERLAPS = 1, CONTAINS = 2, CONTAINED = 3, EQUAL = 4, HAS = 5, MATCHES = 6 };
 
 /* What an index knows of the ids of a query. With `hopeful`, an id that may be there counts so that the query is more likely to hold. */

@@ -6,6 +6,9 @@
 
 #include "postgres.h"
 #include "fmgr.h"
+#if PG_VERSION_NUM >= 160000
+#include "varatt.h"
+#endif
 #include "bitpacking.h"
 
 /* How many ids are read at once. */
@@ -22,6 +25,7 @@ struct varlena *packed(const uint32 *ids, size_t len);
 
 /* values.c: numbers of PostgreSQL, and arrays of ids. */
 uint32 *new_ids(size_t len);
+void sort_ids(uint32 *ids, size_t len);
 size_t made_set(uint32 *ids, size_t len);
 size_t kept_odd(uint32 *ids, size_t len);
 const char *read_digits(const char *at, uint64 *number);
@@ -34,6 +38,8 @@ typedef bool has_id(void *state, uint32 id, bool negated, size_t number);
 idset_query *query_of(Datum value);
 bool holds(const idset_query *query, has_id *has, void *state);
 size_t query_ids(const idset_query *query, Datum *ids);
+typedef double share_of_id(void *state, uint32 id);
+double share_of_query(const idset_query *query, share_of_id *share, void *state);
 
 #pragma GCC visibility pop
 

@@ -208,6 +208,42 @@ bool holds(const idset_query *query, has_id *has, void *state)
     return it;
 }
 
+/* Of the operands in a pair of brackets so far: the share of sets for which no operand of `|` holds, and the share for which all operands of the
+ * last `&` hold. */
+typedef struct {
+    double none, all;
+} operands;
+
+/* The share of sets that a query holds for, if `share` is that of an id, and a set has one id independently of the others. */
+double share_of_query(const idset_query *query, share_of_id *share, void *state)
+{
+    operands *first = palloc(sizeof *first * (signs_of(query) + 1)), *here = first;
+    double last = 0;
+
+    *here = (operands){1, 1};
+    for (uint32 at = 0; at < signs_of(query); at++) {
+        sign it = query->signs[at];
+
+        if (it.kind == OPEN)
+            *++here = (operands){1, 1};
+        else if (it.kind == ID)
+            last = share(state, it.number);
+        else if (it.kind == INVERT)
+            last = 1 - last;
+        else if (it.kind == AND)
+            here->all *= last;
+        else if (it.kind == OR)
+            *here = (operands){here->none * (1 - here->all * last), 1};
+        else if (it.kind == CLOSE) {
+            last = 1 - here->none * (1 - here->all * last);
+            here -= here > first;
+        }
+    }
+    last = 1 - first->none * (1 - first->all * last);
+    pfree(first);
+    return last;
+}
+
 /* How many ids a query has, one as often as it is there. Writes them as keys of an index, unless `ids` is NULL. */
 size_t query_ids(const idset_query *query, Datum *ids)
 {

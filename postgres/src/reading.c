@@ -3,8 +3,6 @@
 
 #include "funcapi.h"
 #include "miscadmin.h"
-#include "nodes/nodeFuncs.h"
-#include "nodes/supportnodes.h"
 
 PG_FUNCTION_INFO_V1(idset_cardinality);
 Datum idset_cardinality(PG_FUNCTION_ARGS)
@@ -183,20 +181,4 @@ Datum idset_unnest(PG_FUNCTION_ARGS)
     if (it->count == 0)
         SRF_RETURN_DONE(calls);
     SRF_RETURN_NEXT(calls, Int64GetDatum(it->ids[it->index++]));
-}
-
-/* Tells the planner how many rows unnest of a constant returns. */
-PG_FUNCTION_INFO_V1(idset_rows);
-Datum idset_rows(PG_FUNCTION_ARGS)
-{
-    Node *asked = (Node *)PG_GETARG_POINTER(0), *set = NULL;
-    bitpacking_set view;
-
-    if (IsA(asked, SupportRequestRows) && is_funcclause(((SupportRequestRows *)asked)->node))
-        set = linitial(((FuncExpr *)((SupportRequestRows *)asked)->node)->args);
-    if (!set || !IsA(set, Const) || ((Const *)set)->constisnull)
-        PG_RETURN_POINTER(NULL);
-    view = opened(PG_DETOAST_DATUM_PACKED(((Const *)set)->constvalue));
-    ((SupportRequestRows *)asked)->rows = (double)bitpacking_set_len(&view);
-    PG_RETURN_POINTER(asked);
 }
