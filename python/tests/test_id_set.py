@@ -221,7 +221,8 @@ def test_arguments():
         with pytest.raises(TypeError):
             packed[wrong]
         assert wrong not in packed
-        for call in (packed.seek, packed.rank, lambda it: packed.range(it, 3), lambda it: packed.range(0, it)):
+        many = [] if isinstance(wrong, tuple) else [packed.seek, packed.rank]  # these accept many targets
+        for call in (*many, lambda it: packed.range(it, 3), lambda it: packed.range(0, it)):
             with pytest.raises(TypeError):
                 call(wrong)
     for bad in ([0, 2**63], [2**70], [-(2**70)], [-1, 2**63], [2], [-3], np.array([2**64 - 1], ">u8"), np.array([2**63], "u8")):
@@ -282,14 +283,18 @@ def test_core_refuses_other_arrays():
 
     core, packed = fimulowen._core, IdSet([1, 2])
     for wrong in [np.arange(3), np.arange(3.0), np.arange(3, dtype=">u4"), np.arange(6, dtype="u4")[::2], b"1234", [1], None]:
-        for call in (lambda it: core.set_pack(IdSet, it), lambda it: packed._contains(it), lambda it: core.set_pack_many(it, [0])):
+        for call in (lambda it: core.set_pack(IdSet, it), lambda it: core.set_pack_many(it, [0]), packed._remove):
             with pytest.raises((TypeError, ValueError, BufferError)):
                 call(wrong)
         with pytest.raises((TypeError, ValueError, BufferError)):
             core.set_append(IdSet, packed, wrong)
+    for wrong in [np.arange(3, dtype="i2"), np.arange(3.0), np.arange(6, dtype="u4")[::2], np.zeros(17, "u1")[1:].view("i8"), [0], None]:
+        with pytest.raises((TypeError, ValueError, BufferError)):
+            packed._contains(wrong)
     for wrong in [np.arange(3, dtype="u4"), np.arange(3.0), np.zeros(17, "u1")[1:].view("i8"), [0]]:
-        with pytest.raises((TypeError, ValueError)):
-            packed._gather(wrong)
+        for call in (packed._gather, packed._rank, lambda it: core.set_group(it, 1)):
+            with pytest.raises((TypeError, ValueError)):
+                call(wrong)
         with pytest.raises((TypeError, ValueError)):
             core.set_open_many(IdSet, b"", wrong)
         with pytest.raises((TypeError, ValueError)):
@@ -297,6 +302,13 @@ def test_core_refuses_other_arrays():
     for wrong in ([packed], (packed, 1), (None,), None):
         with pytest.raises((TypeError, SystemError)):
             core.set_combine(0, wrong)
+    with pytest.raises(Error):
+        packed._remove(np.array([2, 1], "u4"))
+    for wrong, error in ((-1, OverflowError), (2, IndexError), ("1", TypeError)):
+        with pytest.raises(error):
+            packed._mask(wrong)
+    with pytest.raises(ValueError):
+        core.set_group(np.zeros(1, "i8"), -1)
     for call in (-1, 4):
         with pytest.raises(ValueError):
             core.set_combine(call, (packed, packed))

@@ -74,6 +74,13 @@ def ids(values):
     return set(values)
 
 
+def grouped(codes):
+    """The positions of each of 512 codes."""
+    if any(not -1 <= it < 2**9 for it in codes):
+        raise IndexError
+    return [[at for at, it in enumerate(codes) if it == code] for code in range(2**9)]
+
+
 def above(values, least):
     """The values if they increase from a number on."""
     ids(values)
@@ -115,6 +122,8 @@ CALLS = {
     "^": (lambda it: SET ^ it, lambda it: sorted(KNOWN ^ ids(it))),
     "& after": (lambda it: it & SET, lambda it: sorted(KNOWN & ids(it))),
     "- after": (lambda it: it - SET, lambda it: sorted(ids(it) - KNOWN)),
+    "rank": (SET.rank, lambda it: [sum(known < value for known in KNOWN) for value in integers(it)]),
+    "groups": (lambda it: list(map(list, IdSet.groups(it, 2**9))), lambda it: grouped(integers(it))),
     "isdisjoint": (SET.isdisjoint, lambda it: not KNOWN & ids(it)),
     "issubset": (SET.issubset, lambda it: KNOWN <= ids(it)),
     "issuperset": (SET.issuperset, lambda it: KNOWN >= ids(it)),
@@ -208,8 +217,7 @@ def test_one_number(number):
 def test_no_number(wrong):
     query = Query(SET)
     for call in [
-        SET.seek,
-        SET.rank,
+        *([SET.seek, SET.rank] if not isinstance(wrong, list) else []),
         lambda it: SET.range(it, 9),
         lambda it: SET.range(0, it),
         SET.__getitem__,
@@ -230,5 +238,7 @@ NO_ITERABLES = ["", "12", b"", b"12", bytearray(b"1"), memoryview(b"1"), 5, 1.5,
 @pytest.mark.parametrize("name", [*CALLS, "Column", "append to a column"])
 def test_no_iterable(name, wrong):
     call = CALLS[name][0] if name in CALLS else Column if name == "Column" else COLUMN.append
+    if name == "rank" and hasattr(wrong, "__index__"):
+        return  # it counts the ids below one number too
     with pytest.raises(TypeError):
         call(wrong)

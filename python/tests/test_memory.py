@@ -43,6 +43,12 @@ def sets_round(ids, text, bounds):
     packed.__arrow_c_array__(), packed.__arrow_c_schema__(), IdSet(ids[::-1]), IdSet(ids.tolist()), IdSet(iter(ids.tolist())), IdSet(
         range(9)
     )
+    packed.rank(ids), packed.seek([5, 1 << 40]), packed.contains(ids.astype("i8")), packed.rank([5]), packed.mask(
+        ids[-1] + 1
+    ), packed.complement(9000)
+    IdSet.of_mask(packed.mask(90_000)), IdSet.groups(ids % 9), IdSet.groups([-1, 5, 2], 9), packed.jaccard(other)
+    terms = [fimulowen.BM25(np.arange(90_000)).term(it, np.arange(len(it)) % 9) for it in (packed, other)]
+    fimulowen.best(terms, 50), fimulowen.best(terms, 5, 2), fimulowen.best_among(ids, terms, 50), terms[0].documents
     query = (Query(packed) & other | alone) - packed ^ [5]
     list(query), len(query), query.seek(70), query.unpack()
     chain.unpack(*chain.pack(ids[:1024], kind="strict"), kind="strict")
@@ -66,6 +72,25 @@ def refused_round(ids, text, bounds):
         lambda: packed.seek("a"),
         lambda: packed.rank("a"),
         lambda: packed.append([5]),
+        lambda: packed.rank(["a"]),
+        lambda: packed.seek([0.5]),
+        lambda: packed.contains([0.5]),
+        lambda: packed.mask(5),
+        lambda: packed.complement(1 << 40),
+        lambda: IdSet.of_mask([5]),
+        lambda: IdSet.groups([-2]),
+        lambda: IdSet.groups([5], 5),
+        lambda: fimulowen.Term(packed, [5], TABLE),
+        lambda: fimulowen.Term([5], [5], TABLE[:0]),
+        lambda: fimulowen.Term([5], [5], TABLE[::-1]),
+        lambda: fimulowen.Term([5], [5], TABLE, [5]),
+        lambda: fimulowen.best([5], 5),
+        lambda: fimulowen.best_among([5, 4], [fimulowen.Term([5], [5], TABLE)], 5),
+        lambda: core.term(int, packed, ids, ids),
+        lambda: core.term(fimulowen.Term, packed, ids, TABLE),
+        lambda: core.best((5,), b"", 1, 1),
+        lambda: core.best_among(TABLE, (), b"", 1),
+        lambda: core.set_group(ids, 5),
         lambda: packed & 5,
         lambda: packed < 5,
         lambda: fimulowen.intersect(packed, 5),
@@ -91,6 +116,7 @@ def refused_round(ids, text, bounds):
         refused(call)
 
 
+TABLE = np.repeat(np.arange(3), 256).reshape(3, 256)
 ROUNDS = [sets_round, refused_round]
 
 

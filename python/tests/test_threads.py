@@ -45,9 +45,10 @@ class Long:
         self.ids, self.others = drawn(3), drawn(4)
         self.a, self.b, self.copy = IdSet(self.ids), IdSet(self.others), IdSet(self.ids)
         self.even, self.odd = IdSet(range(0, 2_000_000, 2)), IdSet(range(1, 2_000_000, 2))
+        self.kept = self.even.unpack()
         self.pair, self.data = (self.a, self.b), self.a.tobytes()
         self.bounds, self.two = np.array([0, len(self.ids)]), np.array([0, len(self.data)])
-        self.positions = np.arange(len(self.ids))
+        self.positions, self.far = np.arange(len(self.ids)), np.arange(50_000)
         self.out, self.wide, self.blocks = np.empty(len(self.ids), "u4"), np.empty(len(self.ids), "i8"), self.ids[: 1 << 19]
         self.chain = _core.chain_pack(self.blocks, 0, 4, 0)
 
@@ -76,6 +77,12 @@ UNLOCKED = {
     "unpack to int64": lambda it: it.a._read(it.wide),
     "gather": lambda it: it.a._gather(it.positions),
     "contains": lambda it: it.a._contains(it.others),
+    "contains in bits": lambda it: it.a._contains(it.positions),
+    "rank": lambda it: it.even._rank(it.far),
+    "rank in bits": lambda it: it.a._rank(it.positions),
+    "mask": lambda it: it.a._mask(1 << 24),
+    "remove": lambda it: it.odd._remove(it.kept),
+    "group": lambda it: _core.set_group(it.positions, len(it.ids)),
     "==": lambda it: it.a == it.copy,
     "<=": lambda it: it.a <= it.copy,
     "isdisjoint": lambda it: it.even._is_disjoint(it.odd),
@@ -155,6 +162,9 @@ class Longer:
         self.out = np.empty(len(self.ids), "i8")
         self.text, self.ends = IdSet.pack_many(self.ids, self.bounds)
         self.many = [self.a, self.b] * 20
+        self.codes = self.mixed.astype("i8") % 200
+        steps = np.arange(9)[:, None] * (300 - np.arange(256))
+        self.term = fimulowen.Term(self.a, self.ids % 9, steps)
 
 
 @pytest.fixture(scope="module")
@@ -171,6 +181,10 @@ STOPPED = {
     "unpack": lambda it: it.a.unpack(it.out),
     "gather": lambda it: it.a.gather(it.positions),
     "contains": lambda it: it.a.contains(it.mixed),
+    "rank of many": lambda it: it.a.rank(it.positions),
+    "mask": lambda it: it.a.mask(1 << 25),
+    "groups": lambda it: IdSet.groups(it.codes),
+    "best": lambda it: fimulowen.best([it.term] * 3, 10),
     "intersect": lambda it: fimulowen.intersect(*it.many),
     "unite": lambda it: fimulowen.unite(*it.many),
     "subtract": lambda it: fimulowen.subtract(it.a, *it.many[1::2]),

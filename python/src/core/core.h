@@ -42,8 +42,8 @@ typedef struct {
 } Set;
 
 /* Set by the module, and never changed after fimulowen is imported. */
-extern PyTypeObject *Packed_type, *Raw_type, *Set_type, *Column_type;
-extern PyObject *numpy_empty, *type_u32, *type_index, *type_bool, *Refusal, *refused;
+extern PyTypeObject *Packed_type, *Raw_type, *Set_type, *Column_type, *Term_type;
+extern PyObject *numpy_empty, *type_u32, *type_u64, *type_index, *type_bool, *Refusal, *refused;
 
 /* errors.c: each sets an exception, and returns NULL. A position or number below 0 is None. */
 void *fail(ptrdiff_t fault);
@@ -73,12 +73,19 @@ int are_same(const Packed *one, const Packed *other);
 Py_ssize_t Set_length(PyObject *self);
 PyObject *Set_item(PyObject *self, Py_ssize_t at);
 PyObject *Set_subscript(PyObject *self, PyObject *key);
-int Set_contains(PyObject *self, PyObject *it);
 PyObject *Set_compare(PyObject *self, PyObject *other, int how);
 extern PyMethodDef Set_methods[];
 
+/* set_search.c: those that search it. */
+int Set_contains(PyObject *self, PyObject *it);
+PyObject *Set_seek(PyObject *self, PyObject *it);
+PyObject *Set_rank(PyObject *self, PyObject *it);
+PyObject *Set_contains_many(PyObject *self, PyObject *ids);
+PyObject *Set_rank_many(PyObject *self, PyObject *targets);
+
 /* The types and functions of each file. */
-extern PyType_Spec Set_spec, Column_spec;
-extern PyMethodDef chain_functions[], set_functions[], combining_functions[], many_functions[], column_functions[], arrow_functions[];
+extern PyType_Spec Set_spec, Column_spec, Term_spec;
+extern PyMethodDef chain_functions[], set_functions[], combining_functions[], many_functions[], column_functions[], arrow_functions[],
+    ranked_functions[];
 
 #endif

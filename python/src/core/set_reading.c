@@ -123,18 +123,6 @@ PyObject *Set_subscript(PyObject *self, PyObject *key)
     return NULL;
 }
 
-int Set_contains(PyObject *self, PyObject *it)
-{
-    uint32_t id;
-    int answer = get_target(it, &id);
-
-    if (answer == -1 && PyErr_ExceptionMatches(PyExc_TypeError)) {
-        PyErr_Clear();
-        return 0;
-    }
-    return answer == 1 ? bitpacking_set_contains(view_of(self), id) : answer == -1 ? -1 : 0;
-}
-
 /* Whether one is within the other. */
 static int is_within(PyObject *one, PyObject *other)
 {
@@ -160,28 +148,6 @@ PyObject *Set_compare(PyObject *self, PyObject *other, int how)
     return PyBool_FromLong(answer);
 }
 
-static PyObject *Set_seek(PyObject *self, PyObject *it)
-{
-    uint32_t target, id;
-    size_t position;
-    int read = get_target(it, &target);
-
-    if (read == -1)
-        return NULL;
-    if (read == 2 || bitpacking_set_seek(view_of(self), target, &position, &id) != 1)
-        Py_RETURN_NONE;
-    return Py_BuildValue("nk", (Py_ssize_t)position, (unsigned long)id);
-}
-
-static PyObject *Set_rank(PyObject *self, PyObject *it)
-{
-    uint32_t target;
-    int read = get_target(it, &target);
-
-    if (read == -1)
-        return NULL;
-    return PyLong_FromSize_t(read == 2 ? bitpacking_set_len(view_of(self)) : bitpacking_set_rank(view_of(self), target));
-}
 
 /* Writes ids from a position on to memory that other threads may write: each part is unpacked to private memory first. */
 static void copy_ids(const bitpacking_set *view, size_t from, char *out, size_t len, size_t item)
@@ -219,6 +185,46 @@ static PyObject *Set_read(PyObject *self, PyObject *to)
     }
     PyBuffer_Release(&out);
     return done < len ? NULL : PyLong_FromSize_t(len);
+}
+
+/* Sets the byte of each of some ids from a position on. */
+static void mark(const bitpacking_set *view, size_t from, size_t len, uint8_t *out)
+{
+    uint32_t part[MANY];
+    size_t done, count, i;
+
+    for (done = 0; done < len; done += count) {
+        count = (size_t)bitpacking_set_slice(view, from + done, part, least_of(len - done, MANY));
+        for (i = 0; i < count; i++)
+            out[part[i]] = 1;
+    }
+}
+
+/* _mask(count): an array of as many bools, which are true at the ids. */
+static PyObject *Set_mask(PyObject *self, PyObject *count)
+{
+    const size_t room = PyLong_AsSize_t(count), len = (size_t)Set_length(self);
+    PyObject *array;
+    Py_buffer out;
+    uint32_t last;
+    size_t done;
+
+    if (room == (size_t)-1 && PyErr_Occurred())
+        return NULL;
+    if (len > 0 && (bitpacking_set_get(view_of(self), len - 1, &last) != 1 || last >= room)) {
+        PyErr_Format(PyExc_IndexError, "the id %u is not below %zu", (unsigned)last, room);
+        return NULL;
+    }
+    array = new_array(room, type_bool, &out);
+    if (!array)
+        return NULL;
+    memset(out.buf, 0, room);
+    for (done = 0; done < len && PyErr_CheckSignals() == 0; done += PART)
+        UNLOCKED(least_of(len - done, PART), mark(view_of(self), done, least_of(len - done, PART), out.buf));
+    PyBuffer_Release(&out);
+    if (done < len)
+        Py_CLEAR(array);
+    return array;
 }
 
 /* Writes the id at each position. Returns whether all are positions of the set. */
@@ -260,37 +266,17 @@ static PyObject *Set_gather(PyObject *self, PyObject *positions)
     return array;
 }
 
-static void find(const bitpacking_set *view, const uint32_t *ids, size_t len, uint8_t *found)
+/* _remove(ids): keeps those that the set lacks at the front of an increasing array of uint32. Nothing else reads or writes it. */
+static PyObject *Set_remove(PyObject *self, PyObject *ids)
 {
-    size_t i;
+    Py_buffer in;
+    ptrdiff_t answer;
 
-    for (i = 0; i < len; i++)
-        found[i] = (uint8_t)bitpacking_set_contains(view, ids[i]);
-}
-
-/* The ids are private to the call, as fimulowen/id_set.py copies them. */
-static PyObject *Set_contains_many(PyObject *self, PyObject *ids)
-{
-    Py_buffer in, out;
-    PyObject *array;
-    size_t len, done, count;
-
-    if (get_items(ids, &in, 4, 0) < 0)
+    if (get_items(ids, &in, 4, PyBUF_WRITABLE) < 0)
         return NULL;
-    len = (size_t)in.len / 4;
-    array = new_array(len, type_bool, &out);
-    for (done = 0; array && done < len; done += count) {
-        count = least_of(len - done, FEW);
-        UNLOCKED(count, find(view_of(self), (uint32_t *)in.buf + done, count, (uint8_t *)out.buf + done));
-        if (PyErr_CheckSignals() < 0) {
-            PyBuffer_Release(&out);
-            Py_CLEAR(array);
-        }
-    }
+    UNLOCKED(in.len / 4, answer = bitpacking_set_remove(view_of(self), in.buf, (size_t)in.len / 4));
     PyBuffer_Release(&in);
-    if (array)
-        PyBuffer_Release(&out);
-    return array;
+    return answer < 0 ? fail(answer) : PyLong_FromSsize_t(answer);
 }
 
 static PyObject *Set_is_disjoint(PyObject *self, PyObject *other)
@@ -306,10 +292,13 @@ static PyObject *Set_is_disjoint(PyObject *self, PyObject *other)
 }
 
 PyMethodDef Set_methods[] = {
-    {"seek", Set_seek, METH_O, SIGNED("seek($self, target, /)", "The position and the id of the first id that is at least the target, or None.")},
-    {"rank", Set_rank, METH_O, SIGNED("rank($self, target, /)", "How many ids are below the target. The rank of CRoaring also counts the target itself, if the set has it.")},
+    {"seek", Set_seek, METH_O, SIGNED("seek($self, target, /)", "The position and the id of the first id that is at least the target, or None. Of many targets two arrays: the position is the number of ids, and the id -1, if there is none.")},
+    {"rank", Set_rank, METH_O, SIGNED("rank($self, target, /)", "How many ids are below the target; of many targets an array. The rank of CRoaring also counts the target itself, if the set has it.")},
     {"_gather", Set_gather, METH_O, SIGNED("_gather($self, positions, /)", "The ids at an array of positions, of int64.")},
-    {"_contains", Set_contains_many, METH_O, SIGNED("_contains($self, ids, /)", "Whether the set has each id of an array of uint32.")},
+    {"_contains", Set_contains_many, METH_O, SIGNED("_contains($self, ids, /)", "Whether the set has each integer of an array.")},
+    {"_rank", Set_rank_many, METH_O, SIGNED("_rank($self, targets, /)", "How many ids are below each target of an array of int64.")},
+    {"_mask", Set_mask, METH_O, SIGNED("_mask($self, count, /)", "As many bools, which are true at the ids.")},
+    {"_remove", Set_remove, METH_O, SIGNED("_remove($self, ids, /)", "Keeps the ids that the set lacks; returns how many.")},
     {"_is_disjoint", Set_is_disjoint, METH_O, SIGNED("_is_disjoint($self, other, /)", "Whether no id is in both sets.")},
     {"_read", Set_read, METH_O, SIGNED("_read($self, out, /)", "Fills out with ids; returns how many.")},
     {NULL, NULL, 0, NULL},

@@ -20,13 +20,18 @@ from .combining import (
     unite_len,
 )
 from .query import Query
+from .ranked import BM25, Term, best, best_among
 
 __version__ = f"{_core.VERSION // 1000000}.{_core.VERSION // 1000 % 1000}.{_core.VERSION % 1000}"
 __all__ = [
+    "BM25",
     "Column",
     "Error",
     "IdSet",
     "Query",
+    "Term",
+    "best",
+    "best_among",
     "chain",
     "intersect",
     "intersect_len",

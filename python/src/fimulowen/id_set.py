@@ -3,17 +3,21 @@
 from __future__ import annotations
 
 import hashlib
+import operator
 import pickle
-from typing import Any, Iterator, List, Optional, Sequence, SupportsIndex, Tuple
+from typing import Any, Iterable, Iterator, List, Optional, Sequence, SupportsIndex, Tuple, Union
 
 import numpy as np
 import numpy.typing as npt
 
 from . import _core, waiting
-from .values import MOST, PART, Bytes, Integers, constant, fitted, index, room_for, u32
+from .errors import Error
+from .values import MOST, PART, Bytes, Integers, as_array, constant, fitted, index, room_for, targets, true_at, u32
 
 INTERSECT, UNITE, SUBTRACT, XOR = range(4)
-_FEW = 4096
+_FEW, _MOST_GROUPS = 4096, 1 << 24
+_READ = [np.dtype(it) for it in ("=u4", "=i8", "=u8")]
+Mask = Iterable[Union[bool, np.bool_]]
 
 
 class IdSet(_core.Set):
@@ -61,6 +65,45 @@ class IdSet(_core.Set):
         is not above the one before it."""
         return _core.set_pack_many(u32(ids), index(bounds))
 
+    @classmethod
+    def groups(cls, codes: Integers, count: Optional[SupportsIndex] = None) -> List[IdSet]:
+        """A set for each category of a column: item i of the list has the positions whose code is i. A code of -1 stands for a missing value, and
+        its position is in no set. Codes are what `pandas.factorize`, `series.cat.codes`, and `numpy.unique(.., return_inverse=True)` return.
+
+            >>> names, codes = np.unique(["fr", "de", "fr"], return_inverse=True)
+            >>> {name: list(ids) for name, ids in zip(names.tolist(), IdSet.groups(codes))}
+            {'de': [1], 'fr': [0, 2]}
+
+        There are `count` sets, or one for each code up to the greatest. All share one buffer. IndexError, with the position of the first code that is
+        below -1 or not below `count`. Error if there are more than 16,777,216 sets."""
+        every = index(codes)
+        wanted = int(every.max(initial=-1)) + 1 if count is None else _count(count)
+        if wanted > _MOST_GROUPS:
+            raise Error(f"More than {_MOST_GROUPS:,} sets.", "TooLong")
+        return cls.open_many(*_core.set_pack_many(*_core.set_group(every, wanted)))
+
+    @classmethod
+    def of_mask(cls, mask: Mask) -> IdSet:
+        """The positions at which a mask is true: a boolean array, a series of pandas, or another iterable of bools.
+
+            >>> list(IdSet.of_mask(np.array([31, 19, 44]) > 20))
+            [0, 2]
+
+        TypeError, with the position of the first value that is no bool. ValueError if one is masked."""
+        return cls._packed(true_at(mask))
+
+    def mask(self, count: SupportsIndex) -> npt.NDArray[np.bool_]:
+        """A boolean array of `count` items, which is true at each id. IndexError if an id is not below the count."""
+        return self._mask(_count(count))
+
+    def complement(self, count: SupportsIndex) -> IdSet:
+        """The integers from 0 up to `count`, which is not one of them, that the set lacks. Error if there are more than 268,435,456."""
+        end = min(_count(count), 1 << 32)
+        if end - self.rank(end) > MOST:
+            raise Error("More than 268,435,456 values.", "TooLong")
+        ids = np.arange(end, dtype="=u4")
+        return IdSet._packed(ids[: waiting.run(end, self._remove, ids)])
+
     def __and__(self, other: Integers) -> IdSet:
         """The ids of both."""
         return _joined(INTERSECT, self, other)
@@ -93,6 +136,12 @@ class IdSet(_core.Set):
     def issuperset(self, other: Integers) -> bool:
         """Whether this set has all ids of the other, as `self >= other` says of two sets."""
         return self >= as_set(other)
+
+    def jaccard(self, other: Integers) -> float:
+        """The share of the ids of either set that both have. It is 1 for two empty sets."""
+        one = as_set(other)
+        both = counted(INTERSECT, (self, one))
+        return both / (len(self) + len(one) - both) if both or self or one else 1.0
 
     def __hash__(self) -> int:
         found = hashlib.blake2b(digest_size=8)
@@ -157,15 +206,31 @@ class IdSet(_core.Set):
 
     def contains(self, ids: Integers) -> npt.NDArray[np.bool_]:
         """Whether the set has each of many integers, as an array."""
-        wide = index(ids)
-        found = self._contains(wide.astype("=u4"))
-        return found & (wide >= 0) & (wide <= 0xFFFFFFFF)
+        array = as_array(ids)
+        is_read = array is not None and array.dtype in _READ and array.flags.c_contiguous and array.flags.aligned
+        return self._contains(array if is_read else index(ids if array is None else array))
+
+    def _rank_many(self, values: Integers) -> npt.NDArray[np.int64]:
+        return self._rank(targets(values))
+
+    def _seek_many(self, values: Integers) -> Tuple[npt.NDArray[np.int64], npt.NDArray[np.int64]]:
+        at = self._rank_many(values)
+        ids, there = np.full(len(at), -1, "=i8"), at < len(self)
+        ids[there] = self[:][at[there]] if 16 * len(at) > len(self) else self._gather(at[there])
+        return at, ids
 
     def append(self, ids: Integers) -> IdSet:
         """A set with these ids too, which increase, and are all above the greatest id. It copies the packed bytes, and unpacks few of them. Error,
         with the position of the first id that is not above the one before it; `self | ids` accepts any."""
         more = u32(ids)
         return waiting.run(len(self) + len(more), _core.set_append, IdSet, self, more)
+
+
+def _count(count: SupportsIndex) -> int:
+    value = operator.index(count)
+    if value < 0:
+        raise ValueError("the count is below 0")
+    return value
 
 
 def as_set(it: Integers) -> IdSet:

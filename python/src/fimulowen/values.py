@@ -8,7 +8,7 @@ import mmap
 import operator
 import pickle
 from itertools import islice
-from typing import Any, Iterable, Iterator, NoReturn, Optional, Sequence, SupportsIndex, Tuple, Union
+from typing import Any, Callable, Iterable, Iterator, NoReturn, Optional, Sequence, SupportsIndex, Tuple, Union
 
 import numpy as np
 import numpy.typing as npt
@@ -65,11 +65,36 @@ def u32(values: Any) -> npt.NDArray[np.uint32]:
 def index(positions: Any, length: int = 0) -> npt.NDArray[np.int64]:
     """Positions or bounds as a new array of int64. The length is added to those below 0, which count from the end. One that does not fit becomes
     a number below 0, which is no position."""
-    array = as_array(positions)
-    parts = _parts(positions) if array is None else [(0, array)]
-    found = np.concatenate([np.empty(0, "=i8"), *(_i64_of(part, at) for at, part in parts)])
-    found[found < 0] += length
+    found = _wide(positions, _i64_of)
+    if length:
+        found[found < 0] += length
     return found
+
+
+def targets(values: Any) -> npt.NDArray[np.int64]:
+    """Integers to search for, as a new array of int64: one below 0 becomes 0, one above all ids 2^32."""
+    return _wide(values, _clipped)
+
+
+def _wide(values: Any, convert: Callable[[np.ndarray, int], npt.NDArray[np.int64]]) -> npt.NDArray[np.int64]:
+    """Integers as a new array of int64, which the call makes of each part and its position."""
+    array = as_array(values)
+    return np.concatenate([np.empty(0, "=i8"), *(convert(part, at) for at, part in _parts(values))]) if array is None else convert(array, 0)
+
+
+def true_at(mask: Any) -> npt.NDArray[np.uint32]:
+    """The positions at which a mask is true. TypeError, with the position of the first value that is no bool, or ValueError if one is missing."""
+    if isinstance(mask, np.ma.MaskedArray) and np.ma.is_masked(mask):
+        raise ValueError("values are missing")
+    array = np.asarray(mask) if has_array(mask) else objects_of(list(mask))
+    if array.ndim != 1:
+        raise (TypeError if array.ndim == 0 else ValueError)(f"one dimension expected, not {array.ndim}")
+    if array.dtype != bool:
+        wrong = [at for at, it in enumerate(array.tolist()) if not isinstance(it, (bool, np.bool_))]
+        if wrong:
+            raise TypeError(f"position {wrong[0]}: {array[wrong[0]]!r} is not a bool")
+        array = array.astype(bool)
+    return np.flatnonzero(array).astype("=u4")
 
 
 def room_for(count: int, out: Any, dtype: npt.DTypeLike = None) -> np.ndarray:
@@ -196,14 +221,25 @@ def _i64_of(part: np.ndarray, at: int) -> np.ndarray:
     return np.where(part >= -_LEAST, _LEAST, part.astype("=i8")) if part.dtype.kind == "u" else part.astype("=i8")
 
 
+def _clipped(part: np.ndarray, at: int) -> npt.NDArray[np.int64]:
+    """The values of a part as int64, from 0 to 2^32."""
+    if part.dtype == object:
+        return np.array([min(max(integer(it, at + i), 0), _GREATEST + 1) for i, it in enumerate(part)], "=i8")
+    wide = np.minimum(part, np.uint64(_GREATEST + 1)) if part.dtype.kind == "u" else part
+    return np.clip(wide.astype("=i8"), 0, _GREATEST + 1)
+
+
 def integer(it: Any, at: int) -> int:
     """An integer of any size. TypeError with its position if it is none."""
-    if not isinstance(it, (bool, np.bool_)):
+    hint = ""
+    if isinstance(it, (bool, np.bool_)):
+        hint = ": IdSet.of_mask has the positions where a mask is true"
+    else:
         try:
             return operator.index(it)
         except TypeError:
             pass
-    raise TypeError(f"position {at}: {it!r} is not an integer")
+    raise TypeError(f"position {at}: {it!r} is not an integer{hint}")
 
 
 def _refuse(at: int, it: Any) -> NoReturn:
