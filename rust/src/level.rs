@@ -112,7 +112,7 @@ references! { 'a:
     crate::bitpacking::Steps, v3::bitpacking::Steps;
     crate::sets::IdSet<'a>, v3::sets::IdSet<'a>;
     v3::sets::Parts<'a>, crate::sets::Parts<'a>;
-    crate::sets::Query<'a>, v3::sets::Query<'a>;
+    crate::queries::Query<'a>, v3::queries::Query<'a>;
     crate::columns::Column<'a>, v3::columns::Column<'a>;
     v3::columns::Parts<'a>, crate::columns::Parts<'a>;
     crate::ranking::Parts<'a>, v3::ranking::Parts<'a>;

@@ -54,7 +54,7 @@ use core::fmt;
 use core::hash::{Hash, Hasher};
 use core::ops::Deref;
 
-pub use crate::sets::SetError as Error;
+pub use crate::slices::SetError as Error;
 pub use builder::SetBuilder;
 pub use cursor::{Cursor, SetCursor};
 pub use iter::{IntoIter, Iter};

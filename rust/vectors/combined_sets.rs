@@ -2,10 +2,9 @@
 
 use std::collections::BTreeSet;
 
-use bitpacking::sets::{
-    IdSet, Operation, SetError, add, combine_all_count, combine_all_to, combine_count, combine_set, combine_to, encode, remove,
-    retain,
-};
+use bitpacking::queries::{add, combine_all_count, combine_all_to, combine_count, combine_set, combine_to, remove, retain};
+use bitpacking::sets::{IdSet, encode};
+use bitpacking::slices::{Operation, SetError};
 
 use crate::report::Report;
 use crate::rows::Row;

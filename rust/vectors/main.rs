@@ -10,7 +10,6 @@ mod query_trees;
 mod report;
 mod rows;
 mod sets;
-mod slice_cursors;
 
 use std::env;
 use std::process::ExitCode;

@@ -2,7 +2,9 @@
 
 use std::collections::BTreeSet;
 
-use bitpacking::sets::{IdSet, Operation, Query, QueryError, Step, encode};
+use bitpacking::queries::{Query, QueryError, Step};
+use bitpacking::sets::{IdSet, encode};
+use bitpacking::slices::Operation;
 
 use crate::report::Report;
 use crate::rows::Row;

@@ -1,10 +1,10 @@
 //! Id sets: what their bytes say, and which bytes are refused.
 
-use bitpacking::sets::{IdSet, SetBuilder, SetError, append, encode, encode_to, encoded_len};
+use bitpacking::sets::{IdSet, SetBuilder, append, encode, encode_to, encoded_len};
+use bitpacking::slices::SetError;
 
 use crate::report::Report;
 use crate::rows::Row;
-use crate::slice_cursors::walked;
 
 /// How many values are around those that a set writes.
 const MORE: usize = 3;
@@ -30,7 +30,6 @@ pub fn opened(row: &Row, report: &mut Report) {
     contained(&set, &ids, row, report);
     selected(&set, &ids, row, report);
     copied_from(&set, &ids, row, report);
-    walked(&set, &ids, row, report);
     written(&ids, &bytes, row, report);
     pushed(&ids, &bytes, row, report);
     appended_at_cuts(&ids, &bytes, row, report);

@@ -25,8 +25,6 @@ const MOST: usize = 1 << 28;
 /// assert_eq!(ids.pack().unpack(), [7, 9, 10, 11]);
 /// # Ok::<(), Error>(())
 /// ```
-// The proved builder has no `const` constructor, cannot be cleared, and takes five times as long to push an id. `pack` runs proved code, which tests
-// the order again.
 #[derive(Clone, Debug, Default)]
 pub struct SetBuilder {
     ids: Vec<u32>,
@@ -60,12 +58,8 @@ impl SetBuilder {
     /// ```
     #[inline]
     pub fn push(&mut self, id: u32) -> Result<(), Error> {
-        if self.ids.len() == MOST {
-            return Err(Error::TooLong(MOST + 1));
-        }
-        if self.last().is_some_and(|last| id <= last) {
-            return Err(Error::NotSorted(self.ids.len()));
-        }
+        // REQUIRES: the ids of the builder are a set, as each was tested before it was pushed.
+        sets::test_pushed(&self.ids, &[id])?;
         self.ids.push(id);
         Ok(())
     }

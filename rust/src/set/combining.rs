@@ -5,8 +5,8 @@ use alloc::vec::Vec;
 use super::packing::packed;
 use super::{Error, IdSet, IdSetBuf};
 use crate::growing::resize;
-use crate::sets;
-use crate::sets::Operation;
+use crate::queries;
+use crate::slices::Operation;
 
 /// The most ids for which a call makes room without counting the ids of the answer first: 16 MB.
 const MOST_UNCOUNTED: usize = 1 << 22;
@@ -14,7 +14,7 @@ const MOST_UNCOUNTED: usize = 1 << 22;
 /// How many ids the first set gives, combined with each other set in turn.
 #[track_caller]
 pub(super) fn count(operation: Operation, sets: &[&IdSet]) -> usize {
-    usize::try_from(sets::combine_all_count(operation, sets)).expect("a count of ids that fits `usize`")
+    usize::try_from(queries::combine_all_count(operation, sets)).expect("a count of ids that fits `usize`")
 }
 
 /// How many ids an operation on sets gives at most. It counts them if the bound may be far too high: many sets can share most of their ids.
@@ -34,7 +34,7 @@ fn room(operation: Operation, sets: &[&IdSet]) -> usize {
 /// Replaces the values of a vector by the ids of the first set, combined with each other set in turn.
 pub(super) fn combine_into(operation: Operation, sets: &[&IdSet], ids: &mut Vec<u32>) {
     resize(ids, room(operation, sets));
-    let len = sets::combine_all_to(operation, sets, ids).expect("room for all ids");
+    let len = queries::combine_all_to(operation, sets, ids).expect("room for all ids");
     ids.truncate(len);
 }
 
@@ -48,7 +48,7 @@ pub(super) fn combine(operation: Operation, sets: &[&IdSet]) -> Vec<u32> {
 
 /// The set that an operation on two sets gives, or `TooLong` or `Memory`.
 fn try_combine_set(operation: Operation, one: &IdSet, other: &IdSet) -> Result<IdSetBuf, Error> {
-    packed(|bytes| sets::combine_set(operation, &one.code(), &other.code(), &mut Vec::new(), bytes))
+    packed(|bytes| queries::combine_set(operation, &one.code(), &other.code(), &mut Vec::new(), bytes))
 }
 
 /// The set that an operation on two sets gives. Panics if there is an error.
@@ -280,7 +280,7 @@ impl IdSet {
     /// # Ok::<(), bitpacking::set::Error>(())
     /// ```
     pub fn intersect_len(&self, other: &IdSet) -> usize {
-        sets::combine_count(Operation::And, &self.code(), &other.code())
+        queries::combine_count(Operation::And, &self.code(), &other.code())
     }
 
     /// Returns how many ids at least one of the two has. Allocates nothing.
@@ -293,7 +293,7 @@ impl IdSet {
     /// # Ok::<(), bitpacking::set::Error>(())
     /// ```
     pub fn unite_len(&self, other: &IdSet) -> usize {
-        sets::combine_count(Operation::Or, &self.code(), &other.code())
+        queries::combine_count(Operation::Or, &self.code(), &other.code())
     }
 
     /// Returns how many ids this set has and the other lacks. Allocates nothing.
@@ -306,7 +306,7 @@ impl IdSet {
     /// # Ok::<(), bitpacking::set::Error>(())
     /// ```
     pub fn subtract_len(&self, other: &IdSet) -> usize {
-        sets::combine_count(Operation::AndNot, &self.code(), &other.code())
+        queries::combine_count(Operation::AndNot, &self.code(), &other.code())
     }
 
     /// Returns how many ids exactly one of the two has. Allocates nothing.
@@ -319,7 +319,7 @@ impl IdSet {
     /// # Ok::<(), bitpacking::set::Error>(())
     /// ```
     pub fn symmetric_difference_len(&self, other: &IdSet) -> usize {
-        sets::combine_count(Operation::Xor, &self.code(), &other.code())
+        queries::combine_count(Operation::Xor, &self.code(), &other.code())
     }
 
     /// Returns whether the other set has each id of this one. Stops at the first chunk with an id that it lacks, and allocates nothing.
@@ -332,7 +332,7 @@ impl IdSet {
     /// # Ok::<(), bitpacking::set::Error>(())
     /// ```
     pub fn is_subset(&self, other: &IdSet) -> bool {
-        sets::is_subset(&self.code(), &other.code())
+        queries::is_subset(&self.code(), &other.code())
     }
 
     /// Returns whether this set has each id of the other: [`is_subset`](IdSet::is_subset) of the other.
@@ -358,6 +358,6 @@ impl IdSet {
     /// # Ok::<(), bitpacking::set::Error>(())
     /// ```
     pub fn is_disjoint(&self, other: &IdSet) -> bool {
-        sets::is_disjoint(&self.code(), &other.code())
+        queries::is_disjoint(&self.code(), &other.code())
     }
 }

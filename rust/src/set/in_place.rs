@@ -3,6 +3,7 @@
 use alloc::vec::Vec;
 
 use super::{Error, IdSet};
+use crate::queries;
 use crate::sets;
 
 /// Tests that ids increase.
@@ -29,7 +30,7 @@ impl IdSet {
     /// ```
     pub fn retain_in(&self, ids: &mut Vec<u32>) -> Result<(), Error> {
         test(ids)?;
-        sets::retain(ids, &self.code());
+        queries::retain(ids, &self.code());
         Ok(())
     }
 
@@ -49,7 +50,7 @@ impl IdSet {
     /// ```
     pub fn remove_from(&self, ids: &mut Vec<u32>) -> Result<(), Error> {
         test(ids)?;
-        sets::remove(ids, &self.code());
+        queries::remove(ids, &self.code());
         Ok(())
     }
 
@@ -68,6 +69,6 @@ impl IdSet {
     /// # Ok::<(), bitpacking::set::Error>(())
     /// ```
     pub fn add_to(&self, ids: &mut Vec<u32>) -> Result<(), Error> {
-        sets::add(ids, &self.code())
+        queries::add(ids, &self.code())
     }
 }

@@ -4,7 +4,7 @@ use alloc::vec::Vec;
 
 use super::IdSet;
 use super::combining::{combine, combine_into, count};
-use crate::sets::Operation;
+use crate::slices::Operation;
 
 /// Returns the ids that all sets have, in increasing order. Of no sets there are none. Allocates 4 bytes for each id of the shortest set.
 ///

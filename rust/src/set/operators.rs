@@ -5,7 +5,7 @@ use core::ops::{BitAnd, BitAndAssign, BitOr, BitOrAssign, BitXor, BitXorAssign, 
 
 use super::combining::combine_set;
 use super::{IdSet, IdSetBuf};
-use crate::sets::Operation;
+use crate::slices::Operation;
 
 /// An operator of each pair of types.
 macro_rules! pairs {

@@ -7,8 +7,10 @@ use core::ops::{BitAnd, BitOr, BitXor, Sub};
 
 use super::query_ids::{Later, QueryIds};
 use super::{IdSet, IdSetBuf};
+use crate::queries;
+use crate::queries::Step;
 use crate::sets;
-use crate::sets::{Operation, Step};
+use crate::slices::Operation;
 
 /// The most operands that wait at once.
 const MOST_WAITING: usize = 64;
@@ -192,8 +194,8 @@ impl<'a> Query<'a> {
         if let [set] = self.sets[..] {
             return Ok(QueryIds::new(Later::Set(set, 0)));
         }
-        let query = sets::Query::new(&self.sets, &self.steps, Vec::new()).map_err(|fault| match fault {
-            sets::QueryError::Memory => QueryError::Memory,
+        let query = queries::Query::new(&self.sets, &self.steps, Vec::new()).map_err(|fault| match fault {
+            queries::QueryError::Memory => QueryError::Memory,
             // The steps have no other fault, since each joins two queries.
             _ => QueryError::TooDeep,
         })?;

@@ -4,6 +4,7 @@ use core::fmt;
 use core::iter::FusedIterator;
 
 use super::cursor::cursor;
+use crate::queries;
 use crate::sets;
 
 /// How many ids are found at once.
@@ -34,7 +35,7 @@ pub struct QueryIds<'a> {
 pub(super) enum Later<'a> {
     /// The ids of a set alone from a position on, which a walk over bitmaps would find many times slower if they are far apart.
     Set(sets::IdSet<'a>, usize),
-    Query(sets::Query<'a>),
+    Query(queries::Query<'a>),
 }
 
 impl Later<'_> {

@@ -6,7 +6,7 @@
 use std::fmt::Write;
 
 use crate::Wrong;
-use crate::levels::{CALLED, COPIED, CROSSING, ENTRIES, FEATURES, SHARED};
+use crate::levels::{CALLED, COPIED, CROSSING, ENTRIES, Entries, FEATURES, MANY, OF_MANY, SHARED};
 use crate::tokens::{Kind, Token, close, code_from, phrase, tokens};
 
 /// A file of the first copy. Its functions that are entries call the second one.
@@ -18,7 +18,7 @@ pub fn first(text: &str, module: &str, file: &str) -> Result<String, Wrong> {
         for name in entries.functions {
             let function = functions.iter().find(|it| it.name == *name);
             let function = function.ok_or_else(|| Wrong::at(0, format!("no function '{name}' to go over to the second copy")))?;
-            changes.push((function.body + 1, 0, over(&tokens, function, module, entries.of)));
+            changes.push((function.body + 1, 0, over(&tokens, function, entries)));
         }
     }
     if SHARED.iter().any(|it| it.0 == (module, file)) {
@@ -191,10 +191,12 @@ fn apart(tokens: &[Token], function: &Function, changes: &mut Vec<Change>) {
 }
 
 /// The call from a function of the first copy into the second one.
-fn over(tokens: &[Token], function: &Function, module: &str, of: &str) -> String {
-    let (types, name) = (types(tokens, function), function.name);
+fn over(tokens: &[Token], function: &Function, Entries { file, of, .. }: &Entries) -> String {
+    let (types, name, module) = (types(tokens, function), function.name, file.0);
+    let many = OF_MANY.iter().find(|it| (it.0, it.1) == (*file, name));
+    let many = many.map(|it| format!("{}.len() >= {MANY} && ", it.2)).unwrap_or_default();
     let names: Vec<String> = names(tokens, function.given).iter().map(|it| format!("cross({it})")).collect();
-    let mut text = String::from("\n#[cfg(level_v3)]\nif crate::level::is_v3() {\nuse crate::level::cross;\n");
+    let mut text = format!("\n#[cfg(level_v3)]\nif {many}crate::level::is_v3() {{\nuse crate::level::cross;\n");
     if module == "bitpacking" {
         text += "use crate::v3::bitpacking::{Counted as _, Unmeasured as _};\n";
     }

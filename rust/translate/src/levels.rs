@@ -5,7 +5,7 @@
 pub type File = (&'static str, &'static str);
 
 /// The modules that have a second copy. Chains and the functions for C have none: they call functions that go over to it.
-pub const COPIED: [&str; 6] = ["register", "bitpacking", "groups", "sets", "columns", "ranking"];
+pub const COPIED: [&str; 8] = ["register", "bitpacking", "groups", "slices", "sets", "queries", "columns", "ranking"];
 
 /// The features of the level that the functions of the second copy have. `rust/src/level.rs` asks the processor for them.
 pub const FEATURES: &str = "avx2,bmi1,bmi2,lzcnt,popcnt";
@@ -14,11 +14,11 @@ pub const FEATURES: &str = "avx2,bmi1,bmi2,lzcnt,popcnt";
 pub const SHARED: [(File, &str); 9] = [
     (("bitpacking", "kind.rt"), "Kind"),
     (("groups", "group_error.rt"), "GroupError"),
-    (("sets", "operation.rt"), "Operation"),
-    (("sets", "set_error.rt"), "SetError"),
-    (("sets", "query_error.rt"), "QueryError"),
-    (("sets", "step.rt"), "Step"),
-    (("sets", "as_step.rt"), "AsStep"),
+    (("slices", "operation.rt"), "Operation"),
+    (("slices", "set_error.rt"), "SetError"),
+    (("queries", "query_error.rt"), "QueryError"),
+    (("queries", "step.rt"), "Step"),
+    (("queries", "as_step.rt"), "AsStep"),
     (("columns", "column_error.rt"), "ColumnError"),
     (("columns", "column_kind.rt"), "ColumnKind"),
 ];
@@ -30,8 +30,8 @@ pub const CROSSING: [(File, &str); 11] = [
     (("bitpacking", "memory.rt"), "Steps"),
     (("sets", "id_set.rt"), "IdSet"),
     (("sets", "opening.rt"), "Parts"),
-    (("sets", "query.rt"), "Query"),
-    (("sets", "query/walking.rt"), "Walk"),
+    (("queries", "query.rt"), "Query"),
+    (("queries", "query/walking.rt"), "Walk"),
     (("columns", "column.rt"), "Column"),
     (("columns", "column.rt"), "Parts"),
     (("ranking", "parts.rt"), "Parts"),
@@ -50,20 +50,20 @@ const fn entries(file: File, of: &'static str, functions: &'static [&'static str
 }
 
 /// What the functions for Rust and for C call, if it reads or writes more than a few bytes. Blocks of 128 and of 32 values gain less than the choice
-/// costs.
+/// costs, and so does one value of a column.
 pub const ENTRIES: [Entries; 24] = [
     entries(("bitpacking", "bitpacker8x.rt"), "BitPacker8x", &["pack_unmeasured", "unpack_counted", "width_counted"]),
     entries(("sets", "opening.rt"), "opening", &["test_encoding"]),
-    entries(("sets", "combining.rt"), "combining", &["combine", "combine_to", "combine_count", "is_disjoint", "is_subset"]),
-    entries(("sets", "combining_all.rt"), "combining_all", &["combine_all_to", "combine_all_count"]),
-    entries(("sets", "combining_sets.rt"), "combining_sets", &["combine_set"]),
-    entries(("sets", "in_place.rt"), "in_place", &["retain", "remove", "add", "add_to", "retain_if"]),
+    entries(("queries", "combining.rt"), "combining", &["combine_to", "combine_count", "is_disjoint", "is_subset"]),
+    entries(("queries", "combining_all.rt"), "combining_all", &["combine_all_to", "combine_all_count"]),
+    entries(("queries", "combining_sets.rt"), "combining_sets", &["combine_set"]),
+    entries(("queries", "in_place.rt"), "in_place", &["retain", "remove", "add", "add_to", "retain_if"]),
     entries(("sets", "encoding.rt"), "encoding", &["encode", "encode_to", "encoded_len"]),
     entries(("sets", "appending.rt"), "appending", &["append", "append_to"]),
     entries(("sets", "id_set.rt"), "IdSet", &["contains", "rank", "select", "seek", "append_to", "copy_to", "copy_range"]),
-    entries(("sets", "query.rt"), "Query", &["next_ids"]),
-    entries(("sets", "query.rt"), "query", &["query_to"]),
-    entries(("sets", "encoding/order.rt"), "encoding::order", &["first_unsorted", "test_pushed"]),
+    entries(("queries", "query.rt"), "Query", &["next_ids"]),
+    entries(("queries", "query.rt"), "query", &["query_to"]),
+    entries(("sets", "encoding/order.rt"), "encoding::order", &["first_unsorted"]),
     entries(("columns", "opening.rt"), "opening", &["test_column"]),
     entries(("columns", "encoding.rt"), "encoding", &["encode", "encode_to", "encoded_len"]),
     entries(("columns", "encoding/order.rt"), "encoding::order", &["test_pushed"]),
@@ -72,11 +72,17 @@ pub const ENTRIES: [Entries; 24] = [
     entries(("columns", "column/ranges.rt"), "Column", &["count_between", "positions_between"]),
     entries(("columns", "column/copying.rt"), "Column", &["append_to", "copy_to", "copy_range"]),
     entries(("columns", "column/search.rt"), "Column", &["seek"]),
-    entries(("columns", "column/getting.rt"), "Column", &["get", "gather"]),
+    entries(("columns", "column/getting.rt"), "Column", &["gather"]),
     entries(("columns", "reads/blocks.rt"), "Column", &["read_block"]),
     entries(("ranking", "ranking.rt"), "ranking", &["best"]),
     entries(("ranking", "among.rt"), "among", &["best_among"]),
 ];
+
+/// Functions of `ENTRIES` that go over only if the slice that is named has at least `MANY` values. Builders call them for each value.
+pub const OF_MANY: [(File, &str, &str); 2] =
+    [(("sets", "encoding/order.rt"), "first_unsorted", "ids"), (("columns", "encoding/order.rt"), "test_pushed", "pushed")];
+/// A call that goes over takes 24 % more instructions for 31 or 63 values, and with 1 a call for one value takes 5 % more.
+pub const MANY: usize = 64;
 
 /// Functions that the first copy calls and that are always inlined there: in the second copy they are functions with its features.
 pub const CALLED: [(File, &str); 1] = [(("bitpacking", "kernel/least_width.rt"), "width")];

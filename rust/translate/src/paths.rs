@@ -20,11 +20,13 @@ macro_rules! module {
 }
 
 /// The crates, the lowest first, with their modules.
-pub const CRATES: [Module; 8] = [
+pub const CRATES: [Module; 10] = [
     module!("bitpacking_register", "register", is_for_c: false),
     module!("bitpacking", "bitpacking", is_for_c: false),
     module!("bitpack_groups", "groups", is_for_c: false),
+    module!("bitpack_slices", "slices", is_for_c: false),
     module!("bitpack_sets", "sets", is_for_c: false),
+    module!("bitpack_queries", "queries", is_for_c: false),
     module!("bitpack_columns", "columns", is_for_c: false),
     module!("bitpack_ranked", "ranking", is_for_c: false),
     module!("bitpack_lists", "lists", is_for_c: false),

@@ -1,7 +1,7 @@
 //! What has no meaning in Rust, or another one, becomes what means the same.
 
 use crate::Wrong;
-use crate::tokens::{Kind, Token, after_space, close, last_code, phrase};
+use crate::tokens::{Kind, Token, after_space, close, code_from, last_code, phrase};
 
 /// What is in the place of the tokens from an index on, and the index after them.
 pub type Change<'a> = Result<Option<(Vec<Token<'a>>, usize)>, Wrong>;
@@ -10,7 +10,7 @@ pub type Change<'a> = Result<Option<(Vec<Token<'a>>, usize)>, Wrong>;
 pub type Rule<'a, 'r> = &'r dyn Fn(&[Token<'a>], usize) -> Change<'a>;
 
 /// Phrases, and what they become.
-const PHRASES: [(&str, &str); 12] = [
+const PHRASES: [(&str, &str); 16] = [
     ("use std : : alloc : : Global ;", ""),
     ("use std : : alloc : : AllocError ;", "use crate::growing::AllocError;"),
     ("use std : : simd : : prelude : : * ;", "use crate::simd::*;"),
@@ -23,6 +23,11 @@ const PHRASES: [(&str, &str); 12] = [
     ("prove ! (", "assert!("),
     ("Vec : : new ( alloc )", "Vec::new()"),
     ("# [ inline ( always ) ] fn add_group", APART),
+    // A builder pushes a value by few instructions if they are compiled into its caller.
+    ("pub fn test_pushed (", "#[inline]\npub fn test_pushed("),
+    ("pub ( crate ) fn test_more (", "#[inline]\npub(crate) fn test_more("),
+    ("pub fn first_unsorted (", "#[inline]\npub fn first_unsorted("),
+    ("fn last_of ( ids :", "#[inline]\nfn last_of(ids:"),
 ];
 /// If it is inlined, LLVM 22 compares the sums of a group by an instruction that SIMD128 lacks, and fails.
 const APART: &str = "#[cfg_attr(target_feature = \"simd128\", inline(never))]
@@ -37,7 +42,8 @@ const LEFT: [&str; 6] = ["Drop", "Global", "Model", "alloc", "prove", "std"];
 
 /// The tokens with each rule applied.
 pub fn in_rust<'a>(tokens: &[Token<'a>]) -> Result<Vec<Token<'a>>, Wrong> {
-    let tokens = applied(tokens, &[&drops, &models, &errors, &allocators, &phrases, &clones])?;
+    let tokens = applied(tokens, &[&chains])?;
+    let tokens = applied(&tokens, &[&drops, &models, &errors, &allocators, &phrases, &clones])?;
     let tokens = applied(&tokens, &[&growing, &pushes, &slices, &shifts, &shuffles])?;
     match tokens.iter().find(|it| it.kind == Kind::Word && LEFT.contains(&it.text)) {
         Some(left) => Err(left.wrong(format!("no rule for '{}' here", left.text))),
@@ -91,6 +97,25 @@ fn changed<'a>(tokens: &[Token<'a>], at: usize, rules: &[Rule<'a, '_>]) -> Chang
 fn phrases<'a>(tokens: &[Token<'a>], at: usize) -> Change<'a> {
     let found = PHRASES.iter().find_map(|(from, to)| phrase(tokens, at, from).map(|end| (*to, end)));
     Ok(found.map(|(to, end)| (vec![Token::made(to, tokens[at].line)], end)))
+}
+
+/// A condition and a pattern in one `if`, which Rust has from 1.88 on: an `if` inside another.
+fn chains<'a>(tokens: &[Token<'a>], at: usize) -> Change<'a> {
+    let Some(pattern) = phrase(tokens, at, "& & let") else {
+        return Ok(None);
+    };
+    let other = || tokens[at].wrong("no rule for '&& let' other than one in an 'if' without 'else'");
+    let first = tokens[..at].iter().rposition(is_end).map_or(0, |it| it + 1);
+    let body = (at..tokens.len()).find(|it| is_end(&tokens[*it])).ok_or_else(other)?;
+    let end = if tokens[body].is("{") { close(tokens, body) + 1 } else { return Err(other()) };
+    let is_one = (pattern..end).all(|it| phrase(tokens, it, "& & let").is_none());
+    if !is_one || !tokens[code_from(tokens, first)].is("if") || phrase(tokens, code_from(tokens, end), "else").is_some() {
+        return Err(other());
+    }
+    let mut made = vec![Token::made("{ if let", tokens[at].line)];
+    made.extend(&tokens[pattern..end]);
+    made.push(Token::made(" }", tokens[end - 1].line));
+    Ok(Some((made, end)))
 }
 
 /// What may be let go: anything in Rust.

@@ -8,32 +8,16 @@ use crate::rules::{Change, applied};
 use crate::tokens::{Kind, Token, after_space, close, code_from, last_code, phrase};
 
 /// The files and folders, by module: those that are faster without the tests.
-pub const FILES: [(&str, &[&str]); 5] = [
+pub const FILES: [(&str, &[&str]); 7] = [
     ("register", &["arrays.rt", "word.rt"]),
     ("bitpacking", &["memory.rt"]),
     ("groups", &["group.rt", "groups.rt", "integers.rt", "numbers.rt", "widths.rt"]),
     (
-        "sets",
-        &[
-            "array.rt",
-            "bitmap",
-            "blocks.rt",
-            "blocks",
-            "body/mixing.rt",
-            "chunk",
-            "chunks.rt",
-            "combining_all.rt",
-            "directory.rt",
-            "few.rt",
-            "folding.rt",
-            "in_place.rt",
-            "listed.rt",
-            "listed",
-            "searching.rt",
-            "slice.rt",
-            "slice",
-        ],
+        "slices",
+        &["bitmap", "blocks.rt", "blocks", "body/mixing.rt", "chunk", "integers.rt", "listed.rt", "listed", "slice.rt", "slice"],
     ),
+    ("sets", &["array.rt", "chunks.rt", "directory.rt", "few.rt", "searching.rt"]),
+    ("queries", &["combining_all.rt", "folding.rt", "in_place.rt"]),
     ("columns", &["code.rt", "column", "encoding/bodies.rt", "encoding/measuring.rt", "entries.rt", "opening"]),
 ];
 

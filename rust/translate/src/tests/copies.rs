@@ -2,6 +2,7 @@
 
 use crate::Wrong;
 use crate::copies::{first, second};
+use crate::levels::{ENTRIES, OF_MANY};
 
 /// The second copy of a file of `sets` that has nothing else of a rule's.
 #[track_caller]
@@ -59,9 +60,9 @@ fn paths_lead_to_the_second_copy() {
 
 #[test]
 fn both_copies_share_some_types() {
-    let source = "pub enum Step {}\n\nimpl Step {\n    pub(in crate::sets) fn one() {}\n}\n";
-    assert_eq!(second(source, "sets", "step.rt"), Ok("pub use crate::sets::Step;\n".into()));
-    assert_eq!(first(source, "sets", "step.rt"), Ok(source.replace("in crate::sets", "crate")));
+    let source = "pub enum Step {}\n\nimpl Step {\n    pub(in crate::queries) fn one() {}\n}\n";
+    assert_eq!(second(source, "queries", "step.rt"), Ok("pub use crate::queries::Step;\n".into()));
+    assert_eq!(first(source, "queries", "step.rt"), Ok(source.replace("in crate::queries", "crate")));
 }
 
 #[test]
@@ -88,6 +89,15 @@ fn entries_go_over() {
     assert!(made.contains("#[cfg(level_v3)]\nif crate::level::is_v3() {"), "{made}");
     assert!(made.contains(call) && made.ends_with("    len\n}\n"), "{made}");
     assert_eq!(first("fn one() {}\n", "sets", "other.rt"), Ok("fn one() {}\n".into()));
+}
+
+#[test]
+fn few_values_do_not_go_over() {
+    let source = "pub fn first_unsorted(ids: &[u32]) -> Option<usize> {\n    None\n}\n";
+    let made = first(source, "sets", "encoding/order.rt").unwrap();
+    assert!(made.contains("#[cfg(level_v3)]\nif ids.len() >= 64 && crate::level::is_v3() {"), "{made}");
+    let entries = || ENTRIES.iter().flat_map(|it| it.functions.iter().map(|name| (it.file, *name)));
+    assert!(OF_MANY.iter().all(|it| entries().any(|entry| entry == (it.0, it.1))));
 }
 
 #[test]

@@ -53,6 +53,30 @@ fn errors_that_may_be_more() {
 }
 
 #[test]
+fn tests_of_what_is_pushed() {
+    becomes("pub fn test_pushed(a: &[u32]) {}\n", "#[inline]\npub fn test_pushed(a: &[u32]) {}\n");
+    becomes("fn last_of(values: &[u32]) {}\n", "fn last_of(values: &[u32]) {}\n");
+}
+
+#[test]
+fn a_condition_and_a_pattern() {
+    becomes(
+        "fn one() {\n    two();\n    if three && let Some(a) = four(b) {\n        five(a);\n    }\n    six();\n}\n",
+        "fn one() {\n    two();\n    if three { if let Some(a) = four(b) {\n        five(a);\n    } }\n    six();\n}\n",
+    );
+    for body in [
+        "while a && let Some(b) = c {}",
+        "if a && let Some(b) = c {} else {}",
+        "if a {} else if b && let Some(c) = d {}",
+        "if a && let Some(b) = c && let Some(d) = b {}",
+        "if a && let Some(b) = c { if b && let Some(d) = e {} }",
+        "let a = b && let Some(c) = d;",
+    ] {
+        refused(&format!("fn one() {{\n    {body}\n}}\n"), 2, "no rule for '&& let'");
+    }
+}
+
+#[test]
 fn constants_that_are_proved() {
     becomes("const _: () = prove!(A == 1);\n", "const _: () = assert!(A == 1);\n");
     refused("fn one() {\n    prove!(1 == 1);\n}\n", 2, "'prove!' outside");
