@@ -16,12 +16,15 @@ static const char help[] =
     "        prints the 10 best documents that answer QUERY, or the N best up to 999; or how many answer (--count);\n"
     "        and which sets it reads, and the scores in full (--explain)\n\n"
     "A query has words next to each other (documents with all of them), a | b (with one of them), -c (without it),\n"
-    "pre* (all words that begin so), and brackets: 'packed (list | block) -chain*'. All signs but letters and digits end a word.\n\n"
+    "pre* (all words that begin so), and brackets: 'packed (list | block) -chain*'. All signs but letters and digits end a word;\n"
+    "\" and : are errors, as a query has no phrases and no fields.\n\n"
     "The status is 0 if a document was found, 1 if none was, and 2 if something is wrong.\n";
 
 #define DAMAGED "%s: the index is damaged: "
 #define ENDS SPACES "\n|()" /* these signs end what is read as one */
 #define UNIT 1e7            /* of scores */
+#define NO_FIELDS "a query has no fields: a space in place of the colon finds documents with both words"
+#define NO_PHRASES "a query has no phrases: without the quotes it finds documents with all words"
 
 /* The most signs of a query; the most words that are ranked without reading all; and the most operands of a query that may wait. */
 enum { LONGEST_QUERY = 1000, MOST_TERMS = 32, MOST_WAITING = 64, MOST_BEST = 999 };
@@ -291,6 +294,10 @@ static int find(const char *file, const char *query, int explain, size_t best)
     bitpacking_scored found[MOST_BEST + 1];
     if (strlen(query) > LONGEST_QUERY)
         errx(2, "%s: the query is too long", file);
+    s.at += strcspn(query, "\":");
+    if (*s.at)
+        wrong(&s, *s.at == ':' ? NO_FIELDS : NO_PHRASES);
+    s.at = query;
     open_index(&s);
     struct tree tree = read_query(&s, 0, 0);
     bitpacking_term *terms = s.terms.items;

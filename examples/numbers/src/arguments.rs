@@ -20,13 +20,17 @@ pub struct Call {
 /// What a verb does. It returns whether the answer is yes, or has a number.
 type Run = fn(&Call) -> Result<bool>;
 
-const VERBS: [(&str, Run); 11] = [
+const VERBS: [(&str, Run); 15] = [
     ("pack", verbs::pack),
     ("unpack", verbs::unpack),
-    ("show", |call| verbs::describe(call, false)),
+    ("head", verbs::head),
+    ("describe", |call| verbs::describe(call, false)),
     ("check", |call| verbs::describe(call, true)),
     ("get", verbs::get),
     ("seek", verbs::seek),
+    ("rank", verbs::rank),
+    ("contains", verbs::contains),
+    ("sum", verbs::sum),
     ("between", verbs::between),
     ("and", |call| verbs::combine(call, set::intersect_all)),
     ("or", |call| verbs::combine(call, set::unite_all)),
@@ -53,9 +57,14 @@ impl Call {
         self.options.iter().rev().find(|it| it.0 == option).map(|it| it.1.as_os_str())
     }
 
+    /// The number that a word says.
+    pub fn number(&self, word: &OsStr) -> Result<u32> {
+        numbers::parsed(word.as_encoded_bytes()).map_err(|what| self.wrong(&what))
+    }
+
     /// The numbers that the operands after the first say.
     pub fn numbers(&self) -> Result<Vec<u32>> {
-        self.operands[1..].iter().map(|word| numbers::parsed(word.as_encoded_bytes()).map_err(|what| self.wrong(&what))).collect()
+        self.operands[1..].iter().map(|word| self.number(word)).collect()
     }
 
     /// The message about a wrong call.

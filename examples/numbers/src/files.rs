@@ -1,5 +1,6 @@
 //! Reads files, and writes them so that no file is there in part.
 
+use std::borrow::Cow;
 use std::ffi::OsStr;
 use std::fmt::Display;
 use std::fs::{self, File, Permissions};
@@ -13,10 +14,14 @@ use crate::progress::Progress;
 /// How many bytes are read or written at once.
 pub const PIECE: usize = 1 << 16;
 
+/// What messages call a file.
+pub fn name_of(file: &OsStr) -> Cow<'_, str> {
+    if file == "-" { "standard input".into() } else { file.to_string_lossy() }
+}
+
 /// A message about a file.
 pub fn about(file: &OsStr, what: impl Display) -> String {
-    let name = if file == "-" { "standard input".into() } else { file.to_string_lossy() };
-    format!("{name}: {what}")
+    format!("{}: {what}", name_of(file))
 }
 
 /// Reads a file, or standard input. `take` gets the bytes that it did not take before, and whether they are the last; it returns how many it

@@ -23,42 +23,69 @@ pub fn parsed(digits: &[u8]) -> Result<u32> {
     })
 }
 
-/// Adds the numbers of a piece of text that has `line` lines before it. Returns how many bytes they take: the next piece may have the rest of
-/// the last word, which is not read then.
-fn add_text(piece: &[u8], is_last: bool, line: &mut usize, values: &mut Vec<u32>) -> Result<usize> {
-    let lines = |text: &[u8]| text.iter().filter(|&&byte| byte == b'\n').count();
-    let spaced = piece.iter().rposition(u8::is_ascii_whitespace).map_or(0, |at| at + 1);
-    let (end, mut at) = (if is_last || spaced == 0 && piece.len() == PIECE { piece.len() } else { spaced }, 0);
-    for word in piece[..end].split(u8::is_ascii_whitespace) {
-        if !word.is_empty() {
-            values.push(parsed(word).map_err(|what| format!("line {}: {what}", *line + lines(&piece[..at]) + 1))?);
+/// The order of numbers: whether one may come after another, and what is said of one that may not.
+pub struct Order {
+    pub allows: fn(u32, u32) -> bool,
+    pub rule: &'static str,
+}
+
+/// The numbers that are read, and how many lines of text.
+struct Reading {
+    values: Vec<u32>,
+    lines: usize,
+    order: Order,
+}
+
+impl Reading {
+    fn push(&mut self, value: u32) -> Result<()> {
+        match self.values.last() {
+            Some(&before) if !(self.order.allows)(before, value) => {
+                Err(format!("{value} comes after {before}: {}", self.order.rule))
+            }
+            _ => Ok(self.values.push(value)),
         }
-        at += word.len() + 1;
     }
-    *line += lines(&piece[..end]);
-    Ok(end)
+
+    /// Adds the numbers of a piece of text. Returns how many bytes they take: the next piece may have the rest of the last word, which is not
+    /// read then.
+    fn add_text(&mut self, piece: &[u8], is_last: bool) -> Result<usize> {
+        let lines = |text: &[u8]| text.iter().filter(|&&byte| byte == b'\n').count();
+        let spaced = piece.iter().rposition(u8::is_ascii_whitespace).map_or(0, |at| at + 1);
+        let (end, mut at) = (if is_last || spaced == 0 && piece.len() == PIECE { piece.len() } else { spaced }, 0);
+        for word in piece[..end].split(u8::is_ascii_whitespace) {
+            if !word.is_empty() {
+                let pushed = parsed(word).and_then(|value| self.push(value));
+                pushed.map_err(|what| format!("line {}: {what}", self.lines + lines(&piece[..at]) + 1))?;
+            }
+            at += word.len() + 1;
+        }
+        self.lines += lines(&piece[..end]);
+        Ok(end)
+    }
+
+    /// Adds the numbers of a piece of bytes. Returns how many bytes they take.
+    fn add_bytes(&mut self, piece: &[u8], is_last: bool) -> Result<usize> {
+        let words = piece.chunks_exact(4);
+        let left = words.remainder().len();
+        if is_last && left > 0 {
+            return Err(format!("the last number has {left} bytes of 4"));
+        }
+        for word in words {
+            let pushed = self.push(u32::from_le_bytes([word[0], word[1], word[2], word[3]]));
+            pushed.map_err(|what| format!("position {}: {what}", self.values.len()))?;
+        }
+        Ok(piece.len() - left)
+    }
 }
 
-/// Adds the numbers of a piece of bytes. Returns how many bytes they take.
-fn add_bytes(piece: &[u8], is_last: bool, _: &mut usize, values: &mut Vec<u32>) -> Result<usize> {
-    let words = piece.chunks_exact(4);
-    let left = words.remainder().len();
-    if is_last && left > 0 {
-        return Err(format!("the last number has {left} bytes of 4"));
-    }
-    values.extend(words.map(|word| u32::from_le_bytes([word[0], word[1], word[2], word[3]])));
-    Ok(piece.len() - left)
-}
-
-/// The numbers of a file.
-pub fn numbers_of(file: &OsStr, is_binary: bool) -> Result<Vec<u32>> {
-    let (mut values, mut line) = (Vec::new(), 0);
+/// The numbers of a file. Fails at the first that is out of order, with its line, or with its position if each has four bytes.
+pub fn numbers_of(file: &OsStr, is_binary: bool, order: Order) -> Result<Vec<u32>> {
+    let mut reading = Reading { values: Vec::new(), lines: 0, order };
     read(file, |piece, is_last| {
-        let add = if is_binary { add_bytes } else { add_text };
-        let taken = add(piece, is_last, &mut line, &mut values);
-        if values.len() > MOST { Err(format!("there are more than {MOST} numbers")) } else { taken }
+        let taken = if is_binary { reading.add_bytes(piece, is_last) } else { reading.add_text(piece, is_last) };
+        if reading.values.len() > MOST { Err(format!("there are more than {MOST} numbers")) } else { taken }
     })?;
-    Ok(values)
+    Ok(reading.values)
 }
 
 /// Writes numbers as lines of text at the end of a buffer, from the last number to the first. Returns the index of its first byte.

@@ -1,49 +1,65 @@
 //! What each verb does. It returns whether the answer is yes, or has a number.
 
-use bitpacking::column::{self, ColumnBuf};
-use bitpacking::set::{self, IdSet, IdSetBuf};
+use std::ffi::OsStr;
+
+use bitpacking::column::{ColumnBuf, Kind};
+use bitpacking::set::{IdSet, IdSetBuf};
 
 use crate::arguments::Call;
-use crate::files::{Output, about, bytes_of, print};
+use crate::files::{Output, about, bytes_of, name_of, print};
+use crate::numbers::Order;
 use crate::opened::Opened;
 use crate::{Result, numbers, tell};
 
-fn packed(kind: &str, values: &[u32]) -> Result<Vec<u8>> {
-    let disorder =
-        |at: usize| format!("the number at position {at} is out of order: {} comes after {}", values[at], values[at - 1]);
-    let column = |kind| match ColumnBuf::pack(kind, values) {
-        Err(column::Error::NotSorted(at)) => Err(disorder(at)),
-        packed => packed.map(ColumnBuf::into_bytes).map_err(|error| error.to_string()),
-    };
+const ANY: Order = Order { allows: |_, _| true, rule: "" };
+const RISING: Order = Order { allows: |before, after| before < after, rule: "the numbers of a set increase (--sort sorts them)" };
+const NOT_FALLING: Order =
+    Order { allows: |before, after| before <= after, rule: "the numbers of a sorted column do not decrease (--sort sorts them)" };
+
+/// The bytes of a set, or of a column of a kind.
+fn packed(kind: Option<Kind>, values: &[u32]) -> Result<Vec<u8>> {
     match kind {
-        "sorted" => column(column::Kind::Sorted),
-        "plain" => column(column::Kind::Plain),
-        _ => match IdSetBuf::pack(values) {
-            Err(set::Error::NotSorted(at)) => Err(disorder(at)),
-            packed => packed.map(IdSetBuf::into_bytes).map_err(|error| error.to_string()),
-        },
+        None => IdSetBuf::pack(values).map(IdSetBuf::into_bytes).map_err(|error| error.to_string()),
+        Some(kind) => ColumnBuf::pack(kind, values).map(ColumnBuf::into_bytes).map_err(|error| error.to_string()),
     }
 }
 
-/// Without `--as` it is the first kind whose order the numbers have.
+/// The numbers are tested as they are read, unless they are sorted afterwards.
 pub fn pack(call: &Call) -> Result<bool> {
-    let (file, wanted) = (&call.operands[0], call.value("--as"));
-    let kinds = ["set", "sorted", "plain"].into_iter();
-    let mut kinds = kinds.filter(|kind| wanted.is_none_or(|wanted| wanted == *kind)).peekable();
-    kinds.peek().ok_or_else(|| call.wrong("KIND is set, sorted or plain"))?;
-    let values = numbers::numbers_of(file, call.has("--binary"))?;
-    let bytes = kinds.fold(Err(String::new()), |bytes, kind| bytes.or_else(|_| packed(kind, &values)));
-    let bytes = bytes.map_err(|what| about(file, what))?;
+    let (file, sorts) = (&call.operands[0], call.has("--sort"));
+    let (kind, order) = match call.value("--as").map_or(Some("set"), OsStr::to_str) {
+        Some("set") => (None, RISING),
+        Some("sorted") => (Some(Kind::Sorted), NOT_FALLING),
+        Some("plain") if sorts => return Err(call.wrong("a plain column is not sorted: --as sorted is")),
+        Some("plain") => (Some(Kind::Plain), ANY),
+        _ => return Err(call.wrong("KIND is set, sorted or plain")),
+    };
+    let mut values = numbers::numbers_of(file, call.has("--binary"), if sorts { ANY } else { order })?;
+    if sorts {
+        values.sort_unstable();
+    }
+    if sorts && kind.is_none() {
+        values.dedup();
+    }
+    let bytes = packed(kind, &values).map_err(|what| about(file, what))?;
     Output::new(call.value("--output"), false)?.end(&bytes).map(|()| true)
+}
+
+/// Writes the first numbers. It unpacks a piece of them at a time.
+fn write_first(opened: &Opened, len: usize, is_binary: bool, output: Output) -> Result<bool> {
+    let copy = |from, values: &mut [u32]| _ = opened.unpack_range(from, values);
+    numbers::write(output, len, is_binary, copy).map(|()| true)
 }
 
 pub fn unpack(call: &Call) -> Result<bool> {
     let (opened, is_binary) = (Opened::read(&call.operands[0])?, call.has("--binary"));
-    let output = Output::new(call.value("--output"), !is_binary)?;
-    numbers::write(output, opened.len(), is_binary, |from, values| {
-        opened.unpack_range(from, values);
-    })?;
-    Ok(true)
+    write_first(&opened, opened.len(), is_binary, Output::new(call.value("--output"), !is_binary)?)
+}
+
+pub fn head(call: &Call) -> Result<bool> {
+    let lines = call.value("--lines").map_or(Ok(10), |word| call.number(word))?;
+    let opened = Opened::read(&call.operands[0])?;
+    write_first(&opened, opened.len().min(lines as usize), false, Output::new(None, true)?)
 }
 
 /// Writes numbers as text. Returns whether there are any.
@@ -52,16 +68,17 @@ fn write_text(output: Output, values: &[u32]) -> Result<bool> {
     Ok(!values.is_empty())
 }
 
-/// Prints a line about each file. If that fails, it is told, and the other files have their lines all the same.
+/// Prints a line about each file, or some. If that fails, it is told, and the other files have their lines all the same.
 pub fn describe(call: &Call, is_check: bool) -> Result<bool> {
     let mut all = Ok(true);
     for file in &call.operands {
-        let line = bytes_of(file).and_then(|bytes| match Opened::of(bytes) {
-            Ok(opened) => Ok((true, opened.description())),
-            Err(fault) if is_check => Ok((false, fault)),
+        let lines = bytes_of(file).and_then(|bytes| match Opened::of(bytes) {
+            Ok(opened) if is_check => Ok((true, about(file, opened.line()))),
+            Ok(opened) => Ok((true, format!("file: {}\n{}", name_of(file), opened.lines()))),
+            Err(fault) if is_check => Ok((false, about(file, fault + "\n"))),
             Err(fault) => Err(about(file, fault)),
         });
-        match line.and_then(|(is_right, what)| print(&about(file, what + "\n")).map(|_| is_right)) {
+        match lines.and_then(|(is_right, lines)| print(&lines).map(|_| is_right)) {
             Ok(is_right) => all = all.map(|before| before && is_right),
             Err(message) => {
                 tell(&message);
@@ -92,6 +109,26 @@ pub fn seek(call: &Call) -> Result<bool> {
         Opened::Column(column) => column.seek(number).map_err(|error| about(file, error))?,
     };
     found.map_or(Ok(false), |(position, found)| print(&format!("{position} {found}\n")))
+}
+
+/// Prints for each number how many numbers are below it.
+pub fn rank(call: &Call) -> Result<bool> {
+    let (file, numbers) = (&call.operands[0], call.numbers()?);
+    let opened = Opened::read(file)?;
+    print(&numbers.iter().map(|&number| format!("{}\n", opened.rank(number))).collect::<String>())
+}
+
+/// Writes the numbers that are there. Returns whether all are.
+pub fn contains(call: &Call) -> Result<bool> {
+    let (file, numbers) = (&call.operands[0], call.numbers()?);
+    let opened = Opened::read(file)?;
+    let found: Vec<u32> = numbers.iter().copied().filter(|&number| opened.contains(number)).collect();
+    write_text(Output::new(None, true)?, &found)?;
+    Ok(found.len() == numbers.len())
+}
+
+pub fn sum(call: &Call) -> Result<bool> {
+    print(&format!("{}\n", Opened::read(&call.operands[0])?.sum()))
 }
 
 pub fn between(call: &Call) -> Result<bool> {
@@ -125,7 +162,7 @@ pub fn combine(call: &Call, combined: fn(&[&IdSet]) -> Vec<u32>) -> Result<bool>
     } else if call.has("--text") {
         write_text(output, &ids)?;
     } else {
-        output.end(&packed("set", &ids)?)?;
+        output.end(&packed(None, &ids)?)?;
     }
     Ok(!ids.is_empty())
 }

@@ -17,9 +17,16 @@ const LONGEST_QUERY: usize = 1000;
 const MOST_TERMS: usize = 32;
 /// The unit of scores.
 const UNIT: f64 = 1e7;
+const NO_FIELDS: &str = "a query has no fields: a space in place of the colon finds documents with both words";
+const NO_PHRASES: &str = "a query has no phrases: without the quotes it finds documents with all words";
 
 fn damaged<T>(what: &str) -> Result<T> {
     Err(format!("the index is damaged: {what}").into())
+}
+
+/// An error after a part of a query.
+fn wrong<T>(read: &[u8], what: &str) -> Result<T> {
+    Err(format!("the query, after '{}': {what}", String::from_utf8_lossy(read)).into())
 }
 
 fn open_column<'a>(bytes: &'a [u8], kind: Kind, name: &str) -> Result<ColumnBuf<&'a [u8]>> {
@@ -142,7 +149,7 @@ struct Search<'a> {
 impl<'a> Search<'a> {
     /// An error after what was read of the query.
     fn wrong<T>(&self, what: &str) -> Result<T> {
-        Err(format!("the query, after '{}': {what}", String::from_utf8_lossy(&self.query[..self.at])).into())
+        wrong(&self.query[..self.at], what)
     }
 
     /// Goes on in the query by this many signs, and the spaces after them.
@@ -299,6 +306,9 @@ impl<'a> Search<'a> {
 fn answer(bytes: &[u8], query: &[u8], options: &Options) -> Result<(Vec<u8>, bool)> {
     if query.len() > LONGEST_QUERY {
         return Err("the query is too long".into());
+    }
+    if let Some(at) = query.iter().position(|sign| b"\":".contains(sign)) {
+        return wrong(&query[..at], if query[at] == b':' { NO_FIELDS } else { NO_PHRASES });
     }
     let index = &Index::open(bytes)?;
     let mut search = Search { index, query, at: 0, sets: Vec::new(), words: Vec::new(), options };

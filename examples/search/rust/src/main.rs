@@ -22,7 +22,8 @@ A small search engine over id sets and columns.
         and which sets it reads, and the scores in full (--explain)
 
 A query has words next to each other (documents with all of them), a | b (with one of them), -c (without it),
-pre* (all words that begin so), and brackets: 'packed (list | block) -chain*'. All signs but letters and digits end a word.
+pre* (all words that begin so), and brackets: 'packed (list | block) -chain*'. All signs but letters and digits end a word;
+\" and : are errors, as a query has no phrases and no fields.
 
 The status is 0 if a document was found, 1 if none was, and 2 if something is wrong.
 ";
