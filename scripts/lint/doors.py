@@ -4,14 +4,14 @@
 - Above each call of a function with a `requires`, or above its statement, rust/src says after `// REQUIRES:` the clause and why it holds; so it
   says above each implementation of a trait of the proved crates why its law holds. The functions are those of the crates that a module names.
 - Modules of the proved source are public only with the feature `__source`; nothing public has a `requires`, or is a trait, whose law other code
-  could break. An `unsafe` function has a section `# Safety`, and the header says what a function for C requires.
+  could break. None names a module that a crate shows to the crates above it alone. An `unsafe` function has a section `# Safety`, and the header says what a function for C requires.
 """
 import functools
 import re
 import sys
 
 sys.path.insert(1, f"{sys.path[0]}/..")
-from texts import at, end_of_braces, paths, results, text_of
+from texts import at, end_of_braces, for_crates_above, for_users, paths, results, text_of
 
 FACE, HEADER, FILES = "rust/src", "include/bitpacking.h", "rust/translate/src/files.rs"
 FOR_C = f"{FACE}/c_functions.rs"  # public with the feature `c`, for the package in rust/c/
@@ -51,7 +51,7 @@ def required(texts):
 
 
 def requiring(crate):
-    return required(tuple(text_of(it) for it in paths(f"crates/{crate}/src/**/*.rt")))
+    return required(tuple(for_users(it, text_of(it)) for it in paths(f"crates/{crate}/src/**/*.rt")))
 
 
 def face():
@@ -77,6 +77,7 @@ def is_said(lines, number):
     return False
 
 
+# claim: read/7 each call of a proved function in Rust says why its preconditions hold
 def calls():
     for path, text in face().items():
         names, _, traits = map(set().union, *map(requiring, crates_of(re.match(rf"{FACE}/(\w+)", path)[1]) or crates_of("")))
@@ -100,6 +101,10 @@ def modules():
             for item in re.findall(r"\w+|\*", re.sub(r"\bas \w+", "", found[2])) or [found[1]]:
                 if item in risky and path != FOR_C:
                     yield f"{at(path, text, found.start())}: {item} of {found[1]} is public"
+        for found in re.finditer(r"\b(\w+)::(?:\{([^}]*)\}|(\w+))", text):
+            above = for_crates_above(crates()[found[1]]) if found[1] in crates() else set()
+            for item in above.intersection(re.findall(r"\w+", found[2] or found[3])):
+                yield f"{at(path, text, found.start())}: {item} of {found[1]} is for the crates above alone"
     lib = face()[f"{FACE}/lib.rs"]
     for name, module in SEALS.items():
         if re.search(rf"\bpub mod {module}\b|\bpub use [^;]*\b{name}\b", lib) or f"pub trait {name}" not in text_of(f"{FACE}/{module}.rs"):

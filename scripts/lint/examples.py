@@ -18,7 +18,7 @@ from texts import PAGES, at, paths, results, text_of
 
 RUST = r"crates/bitpack_uses/src/.*\.rt|rust/examples/.*\.rs"
 SOURCES = {"rust": RUST, "rs": RUST, "antt": r"crates/bitpack_uses/proofs/.*\.antt", "c": r"examples/.*\.c"}
-SOURCES |= {"sql": r"docs/POSTGRES\.md", "console": r"examples/numbers/README\.md"}
+SOURCES |= {"sql": r"docs/(?:POSTGRES|SQLITE)\.md", "console": r"examples/numbers/README\.md"}
 # A block, with the last line of text before it. The language of one in a comment of code is Rust.
 BLOCK = re.compile(r"(?ms)^([^\n]*)\n\s*^( *)(```+|~~~+) *(\w*)[^\n]*\n(.*?)^ *\3[^\n]*$")
 NAMED = re.compile(r"\s*<!--\s*(\S+)\s*-->\s*")
@@ -58,6 +58,7 @@ def fault(page, language, before, block):
     return None
 
 
+# claim: read/6 examples are of files that are proved or run
 def examples():
     for page in [found for pattern in [*PAGES, "crates/*/src/**/*.rt"] for found in paths(pattern)]:
         text = text_of(page)

@@ -63,6 +63,7 @@ def declared():
     return {name: [" ".join(it.split()) for it in types] for name, types in found.items()}
 
 
+# claim: read/10 the header is as the sources; all parts have one version
 def header():
     limits = {f"#define {name}": it for name, it in re.findall(r"^#define BITPACKING_(LANE_LEN|MAX_\w+) (\d+)\b", text_of(HEADER), re.M)}
     right = {f"#define {name}": it for name, it in re.findall(r"^pub const (\w+): \w+ = (\d+);", text_of(LIMITS), re.M)}

@@ -99,11 +99,13 @@ def calls_in(text, name, functions):
     return " ".join(loop or call for loop, call in its if loop or functions is None or call in functions)
 
 
+# claim: read/1 only `new`, `record` of `Steps`, `Reads` have proofs by hand
 def proofs_by_hand():
     found = set(paths("crates/*/proofs/**/Proof.antt"))
     yield from (f"{path}: {'a proof by hand' if path in found else 'there is none'}" for path in sorted(found ^ BY_HAND))
 
 
+# claim: read/2 of `bitpacking` only `memory.rt` touches elements of slices
 def slices():
     files = codes(PACKERS, MEMORY)
     functions = {name for text in [*files.values(), code(MEMORY)] for name in re.findall(r"\bfn (\w+)", text)}
@@ -131,6 +133,7 @@ def lent(path, text, name, parameter, made):
             yield f"{at(path, text, found.start())}: {inside(text, found.start())} names {name} as neither a parameter nor a new one"
 
 
+# claim: read/3 only packers' calls by kind make a `Steps`, one each
 def steps():
     for path, text in codes(PACKERS, MEMORY).items():
         made, packer = [], re.search(r"/bitpacker\dx\.rt$", path)
@@ -143,6 +146,7 @@ def steps():
     yield from each(MEMORY, code(MEMORY), r"\b(Steps|Self)::new\b", "makes a Steps")
 
 
+# claim: read/15 `new` has kernels for vectors, `scalar` and the program's scalar packers for arrays
 def registers():
     """`new` has vectors and `scalar` arrays, each with its kernels, and so have the packers of the program."""
     program = code("crates/bitpack/src/answer.rt")
@@ -186,6 +190,7 @@ def uncounted():
             yield f"{path}: {name} lends a Reads, or calls what does, and may not"
 
 
+# claim: read/5 read/8 only the file of `Reads` reads, by types; other functions take a `Reads`, or lend one to one call
 def reads():
     for crate, door in DOORS.items():
         yield from each(door, bare(OWN_READS, code(door)), r"\b(Reads|Self)\b")
@@ -198,6 +203,7 @@ def reads():
         yield from each(path, bare(exported, text), UNCOUNTED, "{fn} names {what}, which counts for no caller")
 
 
+# claim: read/4 a function that counts reads or packs once for each count
 def calls():
     door = DOORS[LISTS]
     wanted = [(path, *its.partition(" ")[::2]) for path, text in CALLS.items() for its in text.split("; ")]

@@ -67,6 +67,25 @@ def what_runs(text):
     return text
 
 
+def for_crates_above(crate):
+    """The modules of a crate that are public for the crates above it alone: lib.rt has them after a comment that says so."""
+    listed = re.search(r"(?m)^// For the crates above.*\n((?:pub mod \w+;\n)+)", text_of(f"crates/{crate}/src/lib.rt"))
+    return set(re.findall(r"\w+(?=;)", listed[1])) if listed else set()
+
+
+def for_users(path, text):
+    """The text of a source, in which what is public for the crates above alone is `pub(crate)`: what lib.rt does not pass on."""
+    crate, module = re.match(r"crates/(\w+)/src/(\w+)", path).groups()
+    if module not in for_crates_above(crate):
+        return text
+    passed_on = re.findall(r"(?m)^pub use ([^;]*);", text_of(f"crates/{crate}/src/lib.rt"))
+    names = "|".join(re.findall(r"\w+", " ".join(passed_on)))
+    of_type, item = rf"impl\b[^{{;]*?\b(?:{names})\b[^{{;]*\{{[\s\S]*?^\}}", rf"pub (?:const )?(?:fn|struct|enum|trait) (?:{names})\b"
+    kept = [it.span() for head in (of_type, item) for it in re.finditer(f"(?m)^{head}", text)]
+    hidden = lambda it: it[0] if any(start <= it.start() < end for start, end in kept) else f"{it[1]}pub(crate) "
+    return re.sub(r"(?m)^( *)pub (?=(?:const )?(?:fn|struct|enum|trait)\b)", hidden, text)
+
+
 def code(path):
     return what_runs(text_of(path))
 
