@@ -29,6 +29,8 @@ CREATE TABLE arrays AS SELECT word, array_agg(doc ORDER BY doc) AS ids FROM post
 CREATE TABLE packed AS SELECT word, pack_agg(doc) AS ids FROM postings GROUP BY word;
 ALTER TABLE arrays ADD PRIMARY KEY (word);
 ALTER TABLE packed ADD PRIMARY KEY (word);
+CREATE TABLE pages AS SELECT doc, doc % 1000 AS size FROM generate_series(0, 1000000) doc;
+ALTER TABLE pages ADD PRIMARY KEY (doc);
 VACUUM ANALYZE;"""
 WAYS = {"rows with a primary key": "postings", "`int4[]`, intarray": "arrays", "`idset`": "packed"}
 # How each table answers: {A} and {B} are words, {D} a document. A join is how rows answer an AND.
@@ -38,6 +40,10 @@ ARRAYS, PACKED = (f"FROM {it} a, {it} b WHERE a.word = {{A}} AND b.word = {{B}}"
 AND, HAS = "A and B: how many", "SELECT count(*) FROM {} WHERE word = {{A}} AND {}"
 HAVING = {"postings": "doc = {D}", "arrays": "ids @> ARRAY[{D}]", "packed": "contains(ids, {D})"}
 ALL = "SELECT count(id) FROM (SELECT unnest(ids) AS id FROM {}) q"
+# The rows of the documents of A, and the documents of any word.
+OF_A = "SELECT ids FROM {} WHERE word = {{A}}"
+ROWS_OF_A = "SELECT sum(size) FROM pages WHERE"
+ANY = "SELECT count(*) FROM (SELECT DISTINCT {} FROM {}) q"
 QUERIES = {
     AND: (f"SELECT count(*) {JOIN}", f"SELECT icount(a.ids & b.ids) {ARRAYS}", f"SELECT intersect_len(a.ids, b.ids) {PACKED}"),
     "A and B: the documents": (f"SELECT doc {JOIN}", f"SELECT unnest(a.ids & b.ids) {ARRAYS}", f"SELECT unnest(a.ids & b.ids) {PACKED}"),
@@ -47,6 +53,16 @@ QUERIES = {
         f"SELECT cardinality(a.ids | b.ids) {PACKED}",
     ),
     "whether A has a document": [HAS.format(*it) for it in HAVING.items()],
+    "sum over the rows of A's documents": (
+        "SELECT sum(size) FROM postings JOIN pages USING (doc) WHERE word = {A}",
+        f"{ROWS_OF_A} doc = ANY (({OF_A.format('arrays')})::int4[])",
+        f"{ROWS_OF_A} ({OF_A.format('packed')}) @> doc",
+    ),
+    "documents of any word: how many": (
+        ANY.format("doc", "postings"),
+        ANY.format("unnest(ids)", "arrays"),
+        "SELECT unite_len_agg(ids) FROM packed",
+    ),
     "all documents of all words": ("SELECT count(doc) FROM postings", ALL.format("arrays"), ALL.format("packed")),
 }
 

@@ -1,5 +1,6 @@
 #!/usr/bin/env python3
-"""Times the Python package beside numpy, and CRoaring by ctypes, as a package of Python would call it. Prints the table of docs/SPEED.md:
+"""Times the Python package beside numpy, and CRoaring by ctypes, as a package of Python would call it. Prints the table of docs/SPEED.md, and that
+of docs/PYTHON.md, which is beside masks and arrays of numpy:
 
     scripts/bench/python_speed.py [--rounds N]
 
@@ -18,6 +19,7 @@ import measured
 import python
 
 COUNT, RANGES = 1_000_000, [2_000_000, 10_000_000, 1_000_000_000]
+PARAGRAPHS, ROWS, JOBS = 400_000, 5_000_000, ["fimulowen", "numpy"]
 FOLDER = f"{ROOT}/out/bench"
 
 
@@ -90,12 +92,102 @@ def timed(rounds):
     measured.show(f"two sets of {COUNT:,} ids below {'/'.join(f'{it:,}' for it in RANGES)}, ms", columns, cells)
 
 
+def by_hand(words, lengths, most):
+    """BM25 as one writes it in numpy, over the ids and counts of words."""
+    scores, mean = np.zeros(len(lengths)), lengths.mean()
+    for ids, counts in words:
+        idf = np.log(1 + (len(lengths) - len(ids) + 0.5) / (len(ids) + 0.5))
+        scores[ids] += idf * 2.2 * counts / (counts + 1.2 * (0.25 + 0.75 * lengths[ids] / mean))
+    best = np.argpartition(-scores, most)[:most]
+    return best[np.argsort(-scores[best])]
+
+
+def index_rows(random):
+    """The ten best of 400,000 paragraphs with any of some words, or all."""
+    lengths = np.minimum(random.geometric(1 / 30, PARAGRAPHS), 2000)
+    words = []
+    for share in (0.3, 0.06, 0.02):
+        ids = np.flatnonzero(random.random(PARAGRAPHS) < share)
+        words.append((ids, random.geometric(0.6, len(ids))))
+    model = fimulowen.BM25(lengths)
+    terms = [model.term(*word) for word in words]
+    for count in (2, 3):
+        its, found = terms[-count:], words[-count:]
+        yield f"best ten with any of {count} words", (
+            lambda its=its: fimulowen.best(its, 10),
+            lambda found=found: by_hand(found, lengths, 10),
+        )
+    yield "a term", (lambda: model.term(*words[1]),)
+
+
+def frame_rows(random):
+    """Filters, groups and joins of a frame of five million rows."""
+    codes = np.minimum(random.pareto(1.2, ROWS) * 3, 49).astype("i2")
+    age, user = random.integers(13, 90, ROWS), random.integers(0, 400_000, ROWS)
+    country, is_pro, ages = fimulowen.IdSet.groups(codes), random.random(ROWS) < 0.08, fimulowen.Column(age)
+    pro, some = fimulowen.IdSet.of_mask(is_pro), list(range(10, 20))
+    buyers = fimulowen.IdSet(user[is_pro])
+    probes, ids = random.integers(0, 400_000, 1_000_000), buyers.unpack()
+
+    def chosen():
+        rows = (country[3] & pro).unpack()
+        found = ages.gather(rows)
+        return rows[(found >= 30) & (found <= 40)]
+
+    def grouped():
+        order = np.argsort(codes, kind="stable")
+        return np.split(order, np.cumsum(np.bincount(codes, minlength=50))[:-1])
+
+    def united():
+        return fimulowen.unite(*map(country.__getitem__, some))
+
+    is_within = lambda: np.flatnonzero((codes == 3) & is_pro & (age >= 30) & (age <= 40))
+    assert (chosen() == is_within()).all() and (buyers.contains(probes) == np.isin(probes, ids)).all()
+    assert (buyers.rank(probes) == np.searchsorted(ids, probes)).all() and (country[3].complement(ROWS).mask(ROWS) == (codes != 3)).all()
+    yield "a set for each of 50 countries", (lambda: fimulowen.IdSet.groups(codes), grouped)
+    yield "a mask of 8 %, to a set or ids", (lambda: fimulowen.IdSet.of_mask(is_pro), lambda: np.flatnonzero(is_pro))
+    yield "a set of 8 % to a mask", (lambda: pro.mask(ROWS), lambda: codes == 3)
+    yield "country, plan and age: rows", (chosen, is_within)
+    yield "any of ten countries: rows", (united, lambda: np.flatnonzero(np.isin(codes, some)))
+    yield "not a country, to a set or rows", (lambda: country[3].complement(ROWS), lambda: np.flatnonzero(codes != 3))
+    counts = lambda: [fimulowen.intersect_len(it, pro) for it in country]
+    yield "rows of each country in a plan", (counts, lambda: np.bincount(codes[is_pro], minlength=50))
+    yield "contains of five million users", (lambda: buyers.contains(user), lambda: np.isin(user, ids, kind="table"))
+    yield "rank of a million users", (lambda: buyers.rank(probes), lambda: np.searchsorted(ids, probes))
+    yield "megabytes of country, age, user", (
+        (fimulowen.Column(user).nbytes + ages.nbytes + sum(it.nbytes for it in country)) / 1e6,
+        (codes.nbytes + age.nbytes + user.nbytes) / 1e6,
+    )
+
+
+def segment_rows(random):
+    """A day's changes of a million ids below 20 million."""
+    ids = np.unique(random.integers(0, 20_000_000, 1_000_000)).astype("u4")
+    more, fewer = random.integers(0, 20_000_000, 10_000), random.choice(ids, 5_000)
+    packed = fimulowen.IdSet(ids)
+    changed = lambda: np.setdiff1d(np.union1d(ids, more), fewer)
+    assert ((packed | more) - fewer).unpack().tolist() == changed().tolist()
+    yield "a day's changes of a million ids", (lambda: (packed | more) - fewer, changed)
+    yield "one id more", (lambda: packed | [12345], lambda: np.union1d(ids, [12345]))
+
+
+def jobs(rounds):
+    """Prints the table of three jobs."""
+    random, cells = np.random.default_rng(2), []
+    for name, ways in [*index_rows(random), *frame_rows(random), *segment_rows(random)]:
+        if callable(ways[0]):
+            ways = [1e3 * it for it in measured.turns(dict(enumerate(ways)), rounds).values()]
+        cells.append((name, {way: f"{it:.2f}" for way, it in zip(JOBS, ways)}))
+    measured.show("ms", JOBS, cells)
+
+
 def main():
     parser = argparse.ArgumentParser()
     parser.add_argument("--rounds", type=int, default=7)
     rounds = parser.parse_args().rounds
     if "MEASURED" in os.environ:
         timed(rounds)
+        jobs(rounds)
         return
     interpreter, lack = python.chosen(("numpy",))
     if not interpreter:

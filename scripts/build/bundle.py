@@ -1,6 +1,6 @@
 """The bundles of a release, for those who have no rt: a file for each processor, such as bitpacking-2.0.0-linux-x86_64.tar.gz. It has the
-header, the archives for the processor, the sources of the Rust crate, the Python package, the PostgreSQL extension, the examples, the
-vectors, the licence, all pages, and scripts/build/install.py.
+header, the archives for the processor, the sources of the Rust crate, the Python package, the PostgreSQL and SQLite extensions, the examples,
+the vectors, the licence, all pages, and scripts/build/install.py.
 
 The files lie as in the repository, in a folder with the name of the bundle, so that the commands of the pages work there, but for those
 that build and check. They are those of the last commit: if git reports a change, or a file that it does not track, nothing is written. The
@@ -20,6 +20,7 @@ FILES += [f"rust/{it}/**/*.rs" for it in ("src", "translate/src", "examples", "v
 FILES += ["python/*.md", "python/pyproject.toml", "python/setup.py", "python/src/core/*.[ch]", "python/src/fimulowen/*.py*"]
 FILES += ["python/src/fimulowen/py.typed", "python/tests/*.py"]
 FILES += [f"postgres/{it}" for it in ("Makefile", "idset*.sql", "idset.control", "src/*.[ch]", "sql/*.sql", "expected/*.out")]
+FILES += ["sqlite/Makefile", "sqlite/src/*.[ch]", "sqlite/tests/*.py"]
 # PROOFS links the scripts of its last rows.
 FILES += ["scripts/lint/*.py", "scripts/common.py"]
 FILES += [f"scripts/build/{it}.py" for it in ("install", "archives", "by_cargo", "choosing", "proving")]

@@ -14,11 +14,12 @@ OUT = f"{ROOT}/out/cargo"
 UNWINDS = "rust_eh_personality"
 
 
-def cargo(word, target, *words, flags=""):
-    """Calls cargo for the packages of the repository. What it builds is in the folder `target`, and does not name the folder of the repository."""
+def cargo(word, target, *words, flags="", folder=ROOT):
+    """Calls cargo for the packages of the repository, or of its copy in `folder`. What it builds is in the folder `target`, and does not name the
+    folder of the repository."""
     encoded = "\x1f".join([*flags.split(), f"--remap-path-prefix={ROOT}=bitpacking"])
     env = dict(os.environ, CARGO_TARGET_DIR=target, CARGO_ENCODED_RUSTFLAGS=encoded)
-    return called("cargo", word, "--quiet", "--offline", "--locked", *words, folder=ROOT, env=env)
+    return called("cargo", word, "--quiet", "--offline", "--locked", *words, folder=folder, env=env)
 
 
 def archive(level, profile="release", top=OUT):

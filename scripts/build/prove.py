@@ -1,5 +1,6 @@
 #!/usr/bin/env python3
-"""Proves the libraries below a crate into out/proved/, if they are not there of these sources, and prints a line for each on standard error:
+"""Proves the libraries below a crate into out/proved/, and prints a line for each on standard error. A library there is not proved again if its
+sources are the same and those below it state the same:
 
     prove.py CRATE ..    for `scripts/quick`, which then proves each function of the crate that changes
 

@@ -3,6 +3,10 @@
 `rt lib` keeps each proof for later checks, and the crates above load all of them again. Here the crates above load what a library states and no
 proof, and nothing else is kept in out/proved/. From nothing that takes 30 % less time. scripts/check puts there what `rt ci` proved: until then
 it has the lock of the library, for which each other call waits.
+
+If only bodies of a library change, it is proved again, and the crates above it are not. The library that they were proved over stays then, since
+rattle refuses a library beside another build of one below it. A program or an archive has the code itself: for these all libraries are proved from
+the present sources.
 """
 
 import collections
@@ -16,16 +20,26 @@ import os
 import re
 import shutil
 import subprocess
+import time
 
 from common import ROOT, run, source
 
 PROVED = f"{ROOT}/out/proved"
 # The memory that a job may take, in bytes, and the most jobs that still make a check faster.
 EACH, MOST = 5 << 29, 8
+# The seconds of a check before it proves.
+START = 15
 # The words of a verdict that says all: what was proved, for what machine, and by the checks of earlier runs that it trusts. `rt ci` refuses
 # others, such as may-abort, hides and main, and any that it does not know, which may say what is left out.
 SAID = {"functions", "axioms", "target", "cpu", "sum", "native"}
 SAID |= {"logic-built", "libraries-built", "statements", "incremental"}
+# What a library has but does not state: the code of its functions, the proofs about them, how it was built, and sums of all these. Of the parts of
+# a function in made.json crates above see its contract, Code, Kinds, Met, Reads, Statement and Symbol.
+UNSTATED = re.compile(r"toolchain/|lang/antt/proofs/.*/(Answers|Invariants|Proof)\.antt$")
+UNSTATED_LINES = {
+    "format": re.compile(rb"(carries|needs|over|incremental|checked|sum)\b"),
+    "lang/antt/made.json": re.compile(rb'\{"(Mir|Lts|Given|Needs|Named|Close|MadeProof)":'),
+}
 # A line that says what is proved.
 SAYS_PROVED = re.compile(r": proved$|^statements ")
 
@@ -67,14 +81,14 @@ def digest_of(path):
         return hashlib.sha256(file.read()).digest()
 
 
-def sources_of(crate, top=ROOT):
-    """A number that changes with each source of a crate and of those below it, in a copy of the repository."""
+def sources_of(crate, top=ROOT, crates_of=None):
+    """A number that changes with each source of a crate and of those below it, or of other crates, in a copy of the repository."""
     found = hashlib.sha256()
-    for name in [*libraries(crate), crate]:
+    for name in crates_of or [*libraries(crate), crate]:
         line = re.search(rf"^{name}\b.*$", source("crates.txt"), re.M)[0]
         found.update(f"{line}\n".encode())
         for path in sorted(glob.glob(f"{top}/crates/{name}/[sp]*/**", recursive=True)):
-            if os.path.isfile(path):
+            if path.endswith((".rt", ".antt")):
                 found.update(f"{os.path.relpath(path, top)}\n".encode() + digest_of(path))
     return found.hexdigest()
 
@@ -82,6 +96,32 @@ def sources_of(crate, top=ROOT):
 def sum_of(crate, top=ROOT):
     """A number that changes with the toolchain too."""
     return hashlib.sha256((toolchain() + sources_of(crate, top)).encode()).hexdigest()
+
+
+def builds_below(crate):
+    """A number that changes with the libraries of out/proved/ that a check of a crate reads: the `format` of each has a sum of all of it."""
+    found = hashlib.sha256()
+    for below in libraries(crate):
+        path = f"{PROVED}/{below}.rlib/format"
+        found.update(f"{below}\n".encode() + (digest_of(path) if os.path.exists(path) else b""))
+    return found.hexdigest()
+
+
+def sum_over(crate):
+    """A number that changes with the toolchain, each source of a crate, and the libraries of out/proved/ that a check of it reads."""
+    return hashlib.sha256((toolchain() + sources_of(crate, crates_of=[crate]) + builds_below(crate)).encode()).hexdigest()
+
+
+def stated(rlib):
+    """A number that changes with what a library states: its contracts, types, definitions and lemmas."""
+    found = hashlib.sha256()
+    for path in sorted(glob.glob(f"{rlib}/**", recursive=True)):
+        name = os.path.relpath(path, rlib)
+        if os.path.isfile(path) and not UNSTATED.match(name):
+            with open(path, "rb") as file:
+                lines = [line for line in file if name not in UNSTATED_LINES or not UNSTATED_LINES[name].match(line)]
+            found.update(f"{name}\n".encode() + hashlib.sha256(b"".join(lines)).digest())
+    return found.hexdigest()
 
 
 def free_memory():
@@ -123,7 +163,7 @@ def called(crate, tell, *command):
 
 
 def rattle(crate, tell, verb, *words):
-    """Has rattle check or build a crate, and reads the words of its verdicts."""
+    """Has rattle check or build a crate, and reads the words of its verdicts. Returns these."""
     verdicts = called(crate, tell, f"{kit()}/bin/rattle", verb, *words_of(crate), *words)
     if not verdicts:
         raise Failed(f"{crate}: rattle {verb} printed no verdict", "")
@@ -131,6 +171,7 @@ def rattle(crate, tell, verb, *words):
         more = [it for it in verdict.split() if it != "logic=proved" and it.partition("=")[0] not in SAID]
         if more:
             raise Failed(f"{crate}: the verdict has what no crate of this repository may have: {' '.join(more)}", verdict)
+    return verdicts
 
 
 def proof(*words, jobs=None):
@@ -138,15 +179,32 @@ def proof(*words, jobs=None):
     return ["--logic-built", f"{kit()}/logic_built", "--jobs", str(jobs or free_jobs()), *words]
 
 
-def library(crate, tell):
-    """Proves a library, if that was not done from these sources."""
-    rlib = f"{PROVED}/{crate}.rlib"
-    with made_once(crate, rlib) as is_made:
-        if is_made:
+def library(crate, tell, is_code=False):
+    """Proves a library, unless out/proved/ has one that states what its sources do. If its code is wanted too, it is made from the present sources,
+    as all those below it are. These are proved before."""
+    with alone(crate):
+        if is_proved(crate) and (not is_code or noted(crate)["made"] == [sum_of(crate)]):
             return
-        shutil.rmtree(rlib, ignore_errors=True)
+        rlib, new, sums, start = f"{PROVED}/{crate}.rlib", f"{PROVED}/{crate}.new", (sum_of(crate), sum_over(crate)), time.time()
+        shutil.rmtree(new, ignore_errors=True)
         # A check would show how many functions are proved, but the build after it would read the crate once more.
-        rattle(crate, tell, "build", *proof("--statements", "-o", rlib))
+        verdicts = rattle(crate, tell, "build", *proof("--statements", "-o", new))
+        effort = {"seconds": [round(time.time() - start)], "functions": re.findall(r"functions=(\d+)", verdicts[-1])}
+        before = noted(crate)
+        if not is_code and before.get("below") == [builds_below(crate)] and stated(new) == stated(rlib):
+            note(crate, {**before, **effort, "over": [*before["over"], sums[1]]})
+            shutil.rmtree(new)
+        else:
+            put(crate, new, *sums, effort)
+
+
+def put(crate, made, sum_, over, effort):
+    """Puts a library into out/proved/, made from sources of this sum over what is there."""
+    with contextlib.suppress(FileNotFoundError):
+        os.remove(f"{PROVED}/{crate}.sum")
+    shutil.rmtree(f"{PROVED}/{crate}.rlib", ignore_errors=True)
+    shutil.move(made, f"{PROVED}/{crate}.rlib")
+    note(crate, {"made": [sum_], "below": [builds_below(crate)], "over": [over], **effort})
 
 
 def taken(crate, before):
@@ -154,10 +212,9 @@ def taken(crate, before):
     one that another command of `rt` built, which has a stamp."""
     made = f"{ROOT}/crates/{crate}/out/rlib"
     if os.path.isdir(f"{made}/{crate}.rlib") and not os.path.exists(f"{made}/stamp") and sum_of(crate) == before:
-        shutil.rmtree(f"{PROVED}/{crate}.rlib", ignore_errors=True)
-        shutil.copytree(f"{made}/{crate}.rlib", f"{PROVED}/{crate}.rlib")
-        with open(f"{PROVED}/{crate}.sum", "w", encoding="ascii") as file:
-            file.write(before)
+        shutil.rmtree(f"{PROVED}/{crate}.new", ignore_errors=True)
+        shutil.copytree(f"{made}/{crate}.rlib", f"{PROVED}/{crate}.new")
+        put(crate, f"{PROVED}/{crate}.new", before, sum_over(crate), {})
 
 
 def program(crate, tell):
@@ -165,7 +222,7 @@ def program(crate, tell):
     made = f"{ROOT}/crates/{crate}/out/{crate}"
     os.makedirs(os.path.dirname(made), exist_ok=True)
     for below in libraries(crate):
-        library(below, tell)
+        library(below, tell, is_code=True)
     with made_once(crate, made) as is_made:
         if is_made:
             os.utime(made)
@@ -181,10 +238,10 @@ def kept(crate):
     return f"{PROVED}/{crate}"
 
 
-def check(crate, tell):
-    """Proves a crate, and keeps each proof for later checks of it."""
+def check(crate, tell, is_code=False):
+    """Proves a crate, and keeps each proof for later checks of it. `is_code` is as for `library`."""
     for below in libraries(crate):
-        library(below, tell)
+        library(below, tell, is_code)
     with alone(f"{crate}.kept"):
         rattle(crate, tell, "check", *proof("--progress", "--incremental", kept(crate)))
 
@@ -216,23 +273,41 @@ def archives(crate, builds, tell):
         return made
 
     with alone(f"{crate}.archives"):
-        check(crate, tell)
+        check(crate, tell, is_code=True)
         with concurrent.futures.ThreadPoolExecutor(free_jobs()) as pool:
             return dict(zip(builds, pool.map(compiled, builds)))
 
 
 def noted(crate):
-    """The sum of the sources that what out/proved/ has of a crate was made from, or nothing."""
-    note = f"{PROVED}/{crate}.sum"
-    if not os.path.exists(note):
-        return ""
-    with open(note, encoding="ascii") as file:
-        return file.read()
+    """What is noted of a crate that out/proved/ has, or nothing: `made`, the sum of the sources that it was made from; `below`, that of the builds
+    that it was proved over; `over`, the sums over these of the sources that were proved and state the same; and the `seconds` and `functions` of
+    the last proof."""
+    path = f"{PROVED}/{crate}.sum"
+    if not os.path.exists(path):
+        return {}
+    with open(path, encoding="ascii") as file:
+        return {name: rest for name, *rest in map(str.split, file)}
+
+
+def note(crate, notes):
+    with open(f"{PROVED}/{crate}.sum", "w", encoding="ascii") as file:
+        file.writelines(f"{name} {' '.join(map(str, rest))}\n" for name, rest in notes.items())
 
 
 def is_proved(crate):
-    """Whether out/proved/ has a library, of these sources."""
-    return os.path.isdir(f"{PROVED}/{crate}.rlib") and noted(crate) == sum_of(crate)
+    """Whether out/proved/ has a library that states what these sources do, proved over those below it that out/proved/ has."""
+    return os.path.isdir(f"{PROVED}/{crate}.rlib") and sum_over(crate) in noted(crate).get("over", [])
+
+
+def seconds(crate):
+    """How many seconds the last proof of a library took, or None."""
+    return next(map(int, noted(crate).get("seconds", [])), None)
+
+
+def expected(functions, crates):
+    """About how many seconds it takes to prove as many functions as that, by the last proofs of libraries, or None."""
+    proved = {crate: int(noted(crate)["functions"][0]) for crate in crates if noted(crate).get("functions")}
+    return START + round(functions * sum(map(seconds, proved)) / sum(proved.values())) if proved else None
 
 
 @contextlib.contextmanager
@@ -246,11 +321,10 @@ def alone(name):
 
 @contextlib.contextmanager
 def made_once(crate, made):
-    """Tells whether a file or folder was made from these sources. If it was not, it is noted once the block made it."""
+    """Tells whether a file was made from these sources. If it was not, it is noted once the block made it."""
     with alone(crate):
-        note, now, before = f"{PROVED}/{crate}.sum", sum_of(crate), noted(crate)
+        now, before = [sum_of(crate)], noted(crate)
         if before:
-            os.remove(note)
-        yield before == now and os.path.exists(made)
-        with open(note, "w", encoding="ascii") as file:
-            file.write(now)
+            os.remove(f"{PROVED}/{crate}.sum")
+        yield before.get("made") == now and os.path.exists(made)
+        note(crate, {"made": now})

@@ -26,6 +26,7 @@ import c
 import choosing
 from files import failed, printed
 import python
+import sqlite
 
 OUT = f"{ROOT}/out/release"
 SUMS = "SHA256SUMS"
@@ -89,6 +90,7 @@ def unpacked(path, processor):
         if processor == "x86_64":
             yield f"the first commands of {SEARCH} in it", in_search(top)
             yield from in_postgres(top)
+            yield from in_sqlite(top)
 
 
 def in_search(top):
@@ -107,6 +109,17 @@ def in_postgres(top):
     done = run("make", "-C", "postgres", "BITPACKING=prefix", folder=top, env=dict(os.environ, PWD=top))
     yield "making the PostgreSQL extension in it", failed(done)
     yield "the PostgreSQL extension that was made", None if os.path.isfile(f"{top}/postgres/idset.so") else "there is none"
+
+
+def in_sqlite(top):
+    """The SQLite extension, made in a bundle over the library in its folder `prefix`."""
+    lacking = missing("make", "sqlite3") + [it for it in [sqlite.HEADER] if not os.path.exists(it)]
+    if lacking:
+        leave_out("the SQLite extension over the bundle", f"since there is no {' and no '.join(lacking)}")
+        return
+    yield "making the SQLite extension in it", sqlite.built(top)
+    done = run("sqlite3", folder=top, input=".load sqlite/idset\nSELECT idset_len(idset('[7,9,10,300]'));\n")
+    yield "the SQLite extension that was made", printed(done, "4\n")
 
 
 def sums(folder):
@@ -146,7 +159,7 @@ def main():
     if why := bundle.why_not(in_check):
         print(f"release.py: {why}", file=sys.stderr)
         return 1
-    tools = ["cargo", "sha256sum", "pg_config", "make"]
+    tools = ["cargo", "sha256sum", "pg_config", "make", "sqlite3"]
     lacking = missing(*tools, *(it for compiler, runner in BY_PROCESSOR.values() for it in [compiler, *runner]))
     if not in_check and (lacking := lacking + python.chosen()[1]):
         print(f"release.py: there is no {' and no '.join(lacking)}, and nothing was built", file=sys.stderr)

@@ -1,9 +1,10 @@
 #!/usr/bin/env python3
 """Tests that what decides can fail, with made-up results: `report`, by which a script ends; `judged` of scripts/check; `taken`, by which it
-takes a library that `rt ci` proved; `why_not` of scripts/mutate/unproved.py, over what a check printed; `not_refused`, by which scripts
-that read the sources try wrong changes; and `chosen` of scripts/mutate/record.py, if a source or an edit changed: all edits of the crates
-above it are tried then; and `by_crate` of changed.py, by which `scripts/quick` chooses the functions that it proves; and packages.py, over a list
-of two packages that a machine has or has not.
+takes a library that `rt ci` proved; `stated`, by which the crates above a library are proved again or not; `why_not` of
+scripts/mutate/unproved.py, over what a check printed; `not_refused`, by which scripts that read the sources try wrong changes, and `each` of
+scripts/mutate/trying.py, by which tests do; `chosen` of scripts/mutate/record.py, if a source or an edit changed; `by_crate` of changed.py, by
+which `scripts/quick` chooses the functions that it proves, and the seconds that it tells; and packages.py, over a list of two packages that a
+machine has or has not.
 """
 import contextlib
 import importlib.machinery
@@ -23,6 +24,7 @@ import packages
 import proving
 import record
 import texts
+import trying
 import unproved
 from changes import Edit
 
@@ -82,10 +84,44 @@ def libraries():
     """Whether a library that `rt ci` left is taken, as a name, what it comes to, and what it has to."""
     for name, before, files in ("a library", "1", []), ("one of other sources", "2", []), ("one of another command", "1", ["stamp/it"]):
         with tempfile.TemporaryDirectory(prefix="taken-") as top:
-            with mock.patch.multiple(proving, ROOT=top, PROVED=f"{top}/proved", sum_of=lambda _: "1"):
+            with mock.patch.multiple(
+                proving, ROOT=top, PROVED=f"{top}/proved", sum_of=lambda _: "1", sum_over=lambda _: "2", builds_below=lambda _: "3"
+            ):
                 written(top, {f"crates/low/out/rlib/{it}": "" for it in ["low.rlib/it", *files]} | {"proved/it": ""})
                 proving.taken("low", before)
                 yield name, proving.is_proved("low"), name == "a library"
+
+
+def stated():
+    """Whether a library states the same after a change of one of its files, as a name, what it comes to, and what it has to."""
+    files = {
+        "format": "dep std 1\nover low 1\nchecked 1\nsum 1\n",
+        "interface/lang/src/lib.rt": "1",
+        "toolchain/checked.a": "1",
+        "toolchain/mir.json": "1",
+    }
+    files |= {f"lang/antt/{it}.antt": "1" for it in ("specs/Laws", "proofs/Lemmas", "proofs/one/Answers", "proofs/one/Invariants")}
+    files |= {"lang/antt/made.json": '"one"\n{"Statement":1}\n"two"\n{"Mir":1}\n{"Lts":1}\n', "below/std/interface/lang/src/lib.rt": "1"}
+    unstated = ["over low 1", "checked 1", "sum 1", '{"Mir":1', '{"Lts":1']
+    for path, text in files.items():
+        for old in text.strip().split("\n"):
+            with tempfile.TemporaryDirectory(prefix="stated-") as top:
+                written(f"{top}/one", files)
+                written(f"{top}/two", {**files, path: text.replace(old, f"{old[:-1]}2")})
+                same = proving.stated(f"{top}/one") == proving.stated(f"{top}/two")
+            is_code = path.startswith("toolchain/") or "/one/" in path or any(old.startswith(it) for it in unstated)
+            yield f"{old} of {path} that changes", same, is_code
+
+
+def estimates():
+    """The seconds that a proof is said to take, as a name, what it comes to, and what it has to."""
+    notes = {"low": {"seconds": ["60"], "functions": ["30"]}, "high": {"seconds": ["30"], "functions": ["60"]}, "taken": {"made": ["1"]}}
+    with mock.patch.object(proving, "noted", lambda crate: notes.get(crate, {})):
+        yield "three functions at two seconds each, after fifteen", proving.expected(3, ["low"]), 21
+        yield "nine functions, of libraries with 90 seconds for 90 functions", proving.expected(9, ["low", "high", "taken", "new"]), 24
+        yield "a function, if no proof is known", proving.expected(1, ["taken", "new"]), None
+        yield "libraries", changed.by_last_proofs(map(proving.seconds, ["low", "high"])), ", in about 90 s"
+        yield "libraries that are not all known", changed.by_last_proofs(map(proving.seconds, ["low", "taken"])), ""
 
 
 def why(goals, refused=(), status=1):
@@ -122,6 +158,24 @@ def faults():
     yield "a change that does not fit", texts.not_refused(twice, [lambda: []]), "its lines are in LICENSE 0 times, and not once"
 
 
+def tests():
+    """Each wrong change for a test as a name, why no test refuses it, and why not."""
+    new, twice = ([("docs/NEW.md", [], ["New."])], [("LICENSE", ["no such line"], [])])
+    ended = lambda status: trying.by_pytest(lambda *_: mock.Mock(returncode=status))
+    for name, change, built, failing, right in [
+        ("test that fails", new, None, ended(1), None),
+        ("crash", new, None, ended(139), None),
+        ("test that passes", new, None, ended(0), "one passes"),
+        ("test that is not there", new, None, ended(4), "one: status 4"),
+        ("failure of another test", new, None, lambda *_: ["two"], "one passes"),
+        ("build that fails", new, "it is", ended(1), "it is"),
+        ("change that does not fit", twice, None, ended(1), "its lines are in LICENSE 0 times, and not once"),
+    ]:
+        with mock.patch.object(changes, "edits_in", lambda _: [Edit("it", fails=["one"], changes=change)]):
+            with contextlib.redirect_stdout(io.StringIO()):
+                yield f"a {name}", [*trying.each("it", lambda _: None, lambda _: built, failing)], [("it", right)]
+
+
 def tried(sums, known, by="a hash"):
     """By crate, how many of a hundred edits are tried."""
     edits = {crate: [Edit(f"{crate}/it/{number}") for number in range(100)] for crate in sums}
@@ -129,9 +183,9 @@ def tried(sums, known, by="a hash"):
 
 
 def sums_after(changed):
-    """The sums of two crates and their edits, one above the other, after a change of a file, or as they are."""
-    digest = proving.digest_of
-    with mock.patch.object(proving, "digest_of", lambda path: b"another" if changed and path.endswith(changed) else digest(path)):
+    """The sums of two crates, one above the other, after a change of a file, or as they are."""
+    code = record.code_of
+    with mock.patch.object(record, "code_of", lambda path: "another" if changed and path.endswith(changed) else code(path)):
         return {crate: record.sum_of(crate) for crate in (CRATE, "bitpacking")}
 
 
@@ -145,10 +199,22 @@ def records():
     edits = [Edit(f"one/it/{number}") for number in range(100)]
     one, two = ({it.path for it in record.chosen({"one": edits}, {"one": "1"}, {"one": "1"}, by)["one"]} for by in ("a hash", "another"))
     yield "edits by another commit", one != two, True
-    edit = texts.paths(f"{changes.FOLDER}/{CRATE}/*/*.edit")[0]
-    for path, wanted in {f"crates/{CRATE}/src/word.rt": (100, 100), edit: (100, 10), "no file": (10, 10)}.items():
+    for path, wanted in {f"crates/{CRATE}/src/word.rt": (100, 10), "no file": (10, 10)}.items():
         found = tried(sums_after(path), sums_after(None))
         yield f"edits after a change of {path}", (found[CRATE], found["bitpacking"]), wanted
+    paths = [
+        it.path
+        for it in record.chosen({"one": edits}, {"one": "1", edits[7].path: "new"}, {"one": "1", edits[7].path: "old"}, "a hash")["one"]
+    ]
+    yield "an edit that changed", (paths[0], len(paths)), (edits[7].path, 11)
+    with tempfile.TemporaryDirectory(prefix="record-") as top:
+        texts_of = ["// a comment\nfn it() {}\n", "fn it() {}\n", "fn it() { 1 }\n"]
+        sources = [os.path.join(top, f"{k}.rt") for k in range(3)]
+        for path, text in zip(sources, texts_of):
+            with open(path, "w", encoding="utf-8") as file:
+                file.write(text)
+        one, same, other = map(record.code_of, sources)
+    yield "a source with another comment, and another source", (one == same, one == other), (True, False)
     with tempfile.TemporaryDirectory(prefix="record-") as top, mock.patch.object(record, "RECORD", f"{top}/tried.txt"):
         record.add({"one": "1", "two": "2"})
         record.add({"two": "3"})
@@ -240,7 +306,7 @@ def machines():
 
 
 def checks():
-    for part in [reports, parts, libraries, edits, faults, records, functions, machines]:
+    for part in [reports, parts, libraries, stated, estimates, edits, faults, tests, records, functions, machines]:
         for name, found, right in part():
             yield name, other(found, right)
 

@@ -1,5 +1,5 @@
 """The functions of the crates whose source changed since HEAD, or that name a constant or a type that changed, and what the prover says of them
-over the libraries in out/proved/."""
+over the libraries in out/proved/. Each crate has a line that names them and tells about how many seconds that takes."""
 
 import re
 
@@ -100,6 +100,12 @@ def by_crate():
     return {crate: names for crate, names in every.items() if names}
 
 
+def by_last_proofs(seconds):
+    """What is said of the seconds that proofs take, if all are known."""
+    every = [*seconds]
+    return "" if None in every else f", in about {sum(every)} s"
+
+
 def functions():
     """What is not proved of the functions that changed, by crate, each as a name and why, or None."""
     found = by_crate()
@@ -107,11 +113,14 @@ def functions():
         leave_out("the proofs of functions that changed", "since there is no rt")
         return
     for crate, names in found.items():
-        lacking = [it for it in proving.libraries(crate) if not proving.is_proved(it)]
+        below = proving.libraries(crate)
+        lacking = [it for it in below if not proving.is_proved(it)]
         if lacking:
             why = f"since out/proved/ has not these sources of {', '.join(lacking)}: scripts/build/prove.py {crate} proves what is below it"
-            leave_out(f"the proofs of functions of {crate}", why)
+            leave_out(f"the proofs of functions of {crate}", why + by_last_proofs(map(proving.seconds, lacking)))
             continue
+        seconds = proving.expected(len(names), [*below, crate])
+        print(f"proofs: of {crate}{by_last_proofs([seconds])}: {', '.join(sorted(names))}", flush=True)
         only = [word for name in sorted(names) for word in ("--only", name)]
         done = run(f"{proving.kit()}/bin/rattle", "check", *proving.words_of(crate), *proving.proof(*only), folder=f"{ROOT}/crates/{crate}")
         # The first goal that failed says most: what comes after it may follow from it.

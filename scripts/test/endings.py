@@ -1,5 +1,6 @@
 #!/usr/bin/env python3
-"""Tests the script `bitpack` in a copy, with a toolchain that builds a small program in place of the real one. Then it builds the program
+"""Tests the script `bitpack` in a copy, with a toolchain that builds a small program in place of the real one, and which libraries it and
+scripts/build/prove.py prove again after a change. Then it builds the program
 by that script, and runs it so that it ends early: what `main` makes of the outcome of `run`, which no contract says. Each of these runs has
 to end with status 1 and its one line on standard error, and with nothing of that line on standard output: the input is a directory, the
 output is full, the output is a pipe that nobody reads, or a long `dec` has too little address space. A run to the end has status 0 and says
@@ -25,12 +26,16 @@ RT = """#!/bin/sh
 [ "$1" = doc ] && echo "$KIT/START-HERE.md"
 exit 0
 """
-# Makes what -o names. A crate that FAILS ends with a goal open. The verdict on the crate OF is the line VERDICT.
+# Makes what -o names: a library has the file `states` of its crate, its sources as code, and a sum of these. A crate that FAILS ends with a goal
+# open. The verdict on the crate OF is the line VERDICT.
 RATTLE = """#!/bin/sh
 crate=${PWD##*/}
 echo "$crate $1" >> "$CALLS"
 while [ "$1" != -o ]; do shift; done
-mkdir -p "$2"
+mkdir -p "$2/toolchain"
+cat src/* > "$2/toolchain/mir.json" 2>/dev/null
+[ ! -e states ] || cp states "$2/"
+echo "checked $(cat src/* 2>/dev/null | cksum)" > "$2/format"
 echo "output of a proof"
 if [ "$crate" = "$OF" ]; then echo "$VERDICT"; else echo "logic=proved functions=7 sum=1"; fi
 [ "$crate" = "$FAILS" ] || exit 0
@@ -74,6 +79,13 @@ class Copy:
         env = {"PATH": f"{self.kit}/bin:/usr/bin:/bin" if rt else "/usr/bin:/bin", "KIT": self.kit, "CALLS": self.calls, **more}
         ran = run(f"{self.top}/bitpack", *words, folder="/", env=env, stderr=subprocess.PIPE, input="size\n")
         return ran.returncode, ran.stdout, ran.stderr
+
+    def prove(self):
+        """The crates that are proved below the library `bitpack`."""
+        self.called()
+        prove = f"{self.top}/scripts/build/prove.py", "bitpack"
+        status = run("python3", *prove, env={"PATH": f"{self.kit}/bin:/usr/bin:/bin", "KIT": self.kit, "CALLS": self.calls}).returncode
+        return status, self.called()
 
     def anew(self, **more):
         """What a call says that builds all."""
@@ -119,6 +131,29 @@ def builds(copy):
     yield "is proved once", copy.called(), ["bitpack_main build"]
 
 
+def changes(copy):
+    """What is proved after a change of the lowest library, each as a name, what was found and what is right."""
+    low, text = BELOW[0], {f"crates/{BELOW[0]}/src/lib.rt": "fn one() {}\n"}
+    every, states = [f"{crate} build" for crate in BELOW[:-1]], f"crates/{low}/states"
+    code = lambda: bytes_of(f"{copy.top}/out/proved/{low}.rlib/toolchain/mir.json").decode()
+    written(copy.top, {**text, states: "one() ensures\n"})
+    yield "all is proved over a library that states more", copy.prove(), (0, every)
+    written(copy.top, dict.fromkeys(text, "fn one() { 1 }\n"))
+    yield "a library with another body is proved, and nothing above it", copy.prove(), (0, [f"{low} build"])
+    yield "and it is proved once", copy.prove(), (0, [])
+    yield "the library that the others were proved over stays", code(), "fn one() {}\n"
+    written(copy.top, text)
+    yield "nor is it proved again if the body is the first one", copy.prove(), (0, [])
+    written(copy.top, {**dict.fromkeys(text, "fn two() {}\n"), states: "two() ensures\n"})
+    yield "all is proved over a library that states something else", copy.prove(), (0, every)
+    written(copy.top, dict.fromkeys(text, "fn two() { 2 }\n"))
+    yield "a second body", copy.prove(), (0, [f"{low} build"])
+    yield "the program is built", copy.run("--other", "words")[0], 0
+    yield "from that body, and all of it is proved again", copy.called(), [*every, f"{BELOW[-1]} build", "bitpack_main build"]
+    yield "its libraries have that code", code(), "fn two() { 2 }\n"
+    yield "and serve the library too", copy.prove(), (0, [])
+
+
 def verdicts(copy):
     """Which verdicts end the build, though the status of the check is 0."""
     for number, word in enumerate(REFUSED):
@@ -160,7 +195,7 @@ def runs():
 def checks():
     with tempfile.TemporaryDirectory(prefix="endings-") as top:
         copy = Copy(top)
-        for part in [builds, verdicts]:
+        for part in [builds, changes, verdicts]:
             yield from ((name, other(found, right)) for name, found, right in part(copy))
     built = subprocess.run([f"{ROOT}/bitpack"], input=LINE, stdout=subprocess.PIPE)
     yield "the script bitpack", other(built.stdout, ANSWER)

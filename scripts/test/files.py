@@ -1,4 +1,4 @@
-"""What the tests share: the files of a folder, wrong changes of a file, and what is wrong with what was found."""
+"""What the tests share: the files of a folder, changes of a file, and what is wrong with what was found."""
 
 import os
 

@@ -1,7 +1,8 @@
 #!/usr/bin/env python3
 """Runs each command of the page of examples/numbers/, which install the program with warnings as errors, and compares what they print with the
 page. Then it compares each verb with sets and sorted lists of Python, and the bytes that it writes with the models of docs/FORMAT.md. Then calls
-that fail, and files that are replaced or not. A script `numbers.py` would hide the module of this name from the library of Python.
+that fail, and files that are replaced or not. Last comes a program with wrong changes, which tests have to see. A script `numbers.py`
+would hide the module of this name from the library of Python.
 """
 import functools
 import operator
@@ -10,6 +11,7 @@ import random
 import re
 import resource
 import shlex
+import shutil
 import stat
 import struct
 import subprocess
@@ -18,15 +20,21 @@ import tempfile
 
 sys.path.insert(1, f"{sys.path[0]}/..")
 from common import ROOT, reported, run, source
-from files import bytes_of, other, written
+import changes
+from files import bytes_of, changed, failed, other, written
+import trying
 import vectors
 
 FOLDER = "examples/numbers"
 # Seconds for one call, which takes far below one.
 PATIENCE = 240
 MODEL = vectors.names_of(vectors.model())
-# The kinds with their names and the order of two neighbours.
-KINDS = {"set": ("set", operator.lt), "sorted": ("sorted column", operator.le), "plain": ("plain column", lambda before, after: True)}
+# The kinds with their names, the order of two neighbours, and what is said of others.
+KINDS = {
+    "set": ("set", operator.lt, "the numbers of a set increase (--sort sorts them)"),
+    "sorted": ("sorted column", operator.le, "the numbers of a sorted column do not decrease (--sort sorts them)"),
+    "plain": ("plain column", lambda before, after: True, None),
+}
 # The verbs with their helps, of which the first line is the usage.
 HELP = source(f"{FOLDER}/src/help.txt")
 HELPS = {part.split()[1]: part for part in HELP.strip("\n").split("\n\n") if part.startswith("numbers ")}
@@ -46,6 +54,11 @@ SAMPLES = {
 WRONG_CALLS = {
     "unpack --as set": "unknown option --as",
     "pack --as column": "KIND is set, sorted or plain",
+    "pack --sort --as plain": "a plain column is not sorted: --as sorted is",
+    "head --lines -1 set": "'-1' is not a number from 0 to 4294967295",
+    "rank set": "an operand is missing",
+    "contains set 1.0": "'1.0' is not a number from 0 to 4294967295",
+    "sum set set": "unexpected operand 'set'",
     "and set set --output": "--output requires FILE",
     "seek set 1 2": "unexpected operand '2'",
     "check": "an operand is missing",
@@ -56,17 +69,19 @@ WRONG_CALLS = {
 MISSING, NO_REGULAR = "No such file or directory (os error 2)", "it is not a regular file, and is not replaced"
 # The set of 1 and 3 without its last byte, and with a byte more, and bytes of neither kind: the faults by docs/FORMAT.md.
 CUT, MORE = "cut: fault 1: bytes are missing", "more: fault 11: bytes are left over after the last id"
-NEITHER = "7: fault 2: 7 is the first byte of no set and no column"
+NEITHER = "7: fault 2: 7 is the first byte of no set and no column: numbers pack writes them"
 # Calls that fail, and what they say.
 FAILING = {
-    **{it: f"nowhere: {MISSING}" for it in ("pack nowhere", "unpack nowhere", "show nowhere", "between nowhere 0 1", "and nowhere set")},
-    **{it: CUT for it in ("unpack cut", "show cut", "get cut 0", "between cut 0 1", "and cut set", "xor set cut")},
+    **{
+        it: f"nowhere: {MISSING}" for it in ("pack nowhere", "unpack nowhere", "describe nowhere", "between nowhere 0 1", "and nowhere set")
+    },
+    **{it: CUT for it in ("unpack cut", "head cut", "describe cut", "get cut 0", "between cut 0 1", "and cut set", "xor set cut")},
+    **{it: CUT for it in ("rank cut 1", "contains cut 1", "sum cut")},
     "unpack .": ".: Is a directory (os error 21)",
     **{f"{it} set column": "column: it is a column, not a set" for it in ("and", "or", "not", "xor")},
     "seek plain 2": "plain: the column is plain",
     "get set 0 2": "set: there is no position 2: it has 2 numbers",
-    "pack --binary long": "long: there are more than 268435456 numbers",
-    "pack --as sorted fall": "fall: the number at position 1 is out of order: 5 comes after 9",
+    "pack --as plain --binary long": "long: there are more than 268435456 numbers",
     "pack --binary fall": "fall: the last number has 2 bytes of 4",
 }
 # Wrong numbers, with their line and what is said of them.
@@ -86,6 +101,20 @@ def packed(kind, values):
     return MODEL["encode_set"](values) if kind == "set" else MODEL["encode_column"](int(kind == "sorted"), values)
 
 
+def disorder(kind, values):
+    """The first position with a number that is out of order, and what is said of it; or None."""
+    _, order, rule = KINDS[kind]
+    found = (it for it in range(1, len(values)) if not order(values[it - 1], values[it]))
+    return next(((it, f"{values[it]} comes after {values[it - 1]}: {rule}") for it in found), None)
+
+
+def facts(kind, encoding, values):
+    """The lines of a file that says what it is."""
+    more = [f"bits a number: {8 * len(encoding) / len(values):.2f}", f"least: {min(values)}", f"greatest: {max(values)}"] if values else []
+    lines = ["file: standard input", f"kind: {KINDS[kind][0]}", f"numbers: {len(values)}", f"bytes: {len(encoding)}", *more]
+    return "".join(f"{line}\n" for line in lines).encode()
+
+
 def description(kind, encoding, values):
     limits = f", {8 * len(encoding) / len(values):.2f} bits a number, from {min(values)} to {max(values)}" if values else ""
     return f"{KINDS[kind][0]}, {len(values)} numbers in {len(encoding)} bytes{limits}"
@@ -94,8 +123,8 @@ def description(kind, encoding, values):
 class Program:
     """The program, and a folder for files."""
 
-    def __init__(self, folder):
-        self.folder, self.path = f"{folder}/files", f"{folder}/bin/numbers"
+    def __init__(self, folder, name="numbers"):
+        self.folder, self.path = f"{folder}/files", f"{folder}/bin/{name}"
         os.mkdir(self.folder)
         built = {"RUSTFLAGS": "-D warnings", "CARGO_NET_OFFLINE": "true", "CARGO_INSTALL_ROOT": folder}
         self.env = {"CARGO_TARGET_DIR": f"{ROOT}/out/numbers"} | os.environ | built
@@ -103,7 +132,8 @@ class Program:
 
     def differs(self, wanted, *words, **more):
         """What is wrong if a call has another answer than this status, these bytes and this message; or None."""
-        how = {"input": more.pop("given", b""), "stdout": subprocess.PIPE, "stderr": subprocess.PIPE, "cwd": self.folder}
+        given = {} if "stdin" in more else {"input": more.pop("given", b"")}
+        how = {**given, "stdout": subprocess.PIPE, "stderr": subprocess.PIPE, "cwd": self.folder}
         done = subprocess.run([self.path, *map(str, words)], check=False, timeout=PATIENCE, **(how | more))
         return other((done.returncode, done.stdout, (done.stderr or b"").decode(errors="replace")), (*wanted, "", "")[:3])
 
@@ -130,22 +160,70 @@ def of_page(program):
     yield "the verbs that the page shows", None if shown == {*HELPS} else f"they differ by {shown ^ {*HELPS}}"
 
 
+def ordering(program):
+    """Without a kind it packs a set. A number that is out of order is an error. With --sort each sample is packed."""
+    for what, values in SAMPLES.items():
+        for kind, wanted in ("set", []), ("set", ["--as", "set"]), ("sorted", ["--as", "sorted"]):
+            right = packed(kind, sorted(set(values) if kind == "set" else values))
+            for option, given in ([], text_of(values)), (["--binary"], binary_of(values)):
+                call, found = ["pack", *option, *wanted], disorder(kind, values)
+                name = f"{' '.join(call)} of {what}"
+                place = found and (f"position {found[0]}" if option else f"line {found[0] + 1}")
+                message = found and f"numbers: standard input: {place}: {found[1]}\n"
+                yield name, program.differs((2, b"", message) if found else (0, right), *call, given=given)
+                yield f"sorting: {name}", program.differs((0, right), *call, "--sort", given=given)
+    with subprocess.Popen(["yes", "7"], stdout=subprocess.PIPE) as endless:
+        message = "standard input: line 2: 7 comes after 7: " + KINDS["set"][2]
+        yield "numbers without an end that are out of order", program.differs(
+            (2, b"", f"numbers: {message}\n"), "pack", stdin=endless.stdout
+        )
+        endless.kill()
+
+
 def packing(program):
     """Each sample is packed as each kind that it can be, from text and from bytes, unpacked to both, and described. What finds nothing has
     status 1."""
     for what, values in SAMPLES.items():
-        kinds = [kind for kind, (_, order) in KINDS.items() if all(map(order, values, values[1:]))]
-        yield f"the kind of {what}", program.differs((0, packed(kinds[0], values)), "pack", given=text_of(values))
-        for kind in kinds:
+        for kind in [it for it in KINDS if not disorder(it, values)]:
             content, name = packed(kind, values), f"{what} as {kind}"
             for option, given in ([], text_of(values)), (["--binary"], binary_of(values)):
                 yield f"packing {name} {option}", program.differs((0, content), "pack", *option, "--as", kind, given=given)
                 yield f"unpacking {name} {option}", program.differs((0, given), "unpack", *option, given=content)
             line = f"standard input: {description(kind, content, values)}\n".encode()
-            for verb in ["show"], ["check", "-"]:
-                yield f"{verb} of {name}", program.differs((0, line), *verb, given=content)
+            yield f"check of {name}", program.differs((0, line), "check", "-", given=content)
     program.write(few=packed("set", [7, 9]))
     yield from ((call, program.differs((1, b""), *call.split())) for call in ("seek few 10", "between few 0 6"))
+
+
+def questions(program):
+    """Each sample as each kind is asked: its facts, its first numbers, its sum, how many numbers are below one, and which it has."""
+    chance = random.Random(2)
+    for what, values in SAMPLES.items():
+        near = [number + add for number in chance.sample(values, min(len(values), 6)) for add in (-1, 0, 1)]
+        probes = [0, 2**32 - 1, *(it for it in near if 0 <= it < 2**32)]
+        there = [it for it in probes if it in values]
+        for kind in [it for it in KINDS if not disorder(it, values)]:
+            content, name = packed(kind, values), f"{what} as {kind}"
+            yield f"describe: {name}", program.differs((0, facts(kind, content, values)), "describe", given=content)
+            for words, count in ([], 10), (["--lines", 0], 0), (["--lines", 17_000], 17_000):
+                yield f"head {words}: {name}", program.differs((0, text_of(values[:count])), "head", *words, given=content)
+            yield f"sum: {name}", program.differs((0, text_of([sum(values)])), "sum", given=content)
+            below = text_of([sum(value < probe for value in values) for probe in probes])
+            yield f"rank: {name}", program.differs((0, below), "rank", "-", *probes, given=content)
+            status = 0 if there == probes else 1
+            yield f"contains: {name}", program.differs((status, text_of(there)), "contains", "-", *probes, given=content)
+            if there:
+                yield f"contains all: {name}", program.differs((0, text_of(there)), "contains", "-", *there, given=content)
+
+
+def great(program):
+    """A column of 2^24 numbers, the greatest that there are, which unpacked have 64 MiB: with less memory it is asked all the same."""
+    program.write(greatest=b"\xFF" * 2**26)
+    yield "packing 2^24 numbers", program.differs((0, b""), *"pack --as plain --binary greatest --output great".split())
+    limit = {"preexec_fn": lambda: resource.setrlimit(resource.RLIMIT_AS, (2**25, 2**25))}
+    yield "head of 2^24 numbers", program.differs((0, text_of([2**32 - 1] * 2)), *"head --lines 2 great".split(), **limit)
+    yield "sum of 2^24 numbers", program.differs((0, b"72057594021150720\n"), "sum", "great", **limit)
+    yield "rank in 2^24 numbers", program.differs((0, b"0\n"), "rank", "great", 2**32 - 1, **limit)
 
 
 def texts(program):
@@ -186,7 +264,7 @@ def failing(program):
         yield f"the call {call}", program.fails(f"{what}: {usage}", *call.split())
     for given, line, word in WRONG_NUMBERS:
         text = f"standard input: line {line}: '{word}' is not a number from 0 to 4294967295"
-        yield f"the numbers {given[-20:]}", program.fails(text, "pack", given=given)
+        yield f"the numbers {given[-20:]}", program.fails(text, "pack", "--as", "plain", given=given)
     content = bytes.fromhex("82010101")
     program.write(set=content, cut=content[:-1], more=content + b"0", **{"7": b"\7"}, long=b"", fall=b"9 5 5\n")
     program.write(column=packed("sorted", [1, 3]), plain=packed("plain", [3, 1]))
@@ -198,7 +276,7 @@ def failing(program):
     yield "checking what is not right", program.differs((1, f"{CUT}\n{line}".encode()), "check", "cut", "set")
     full, (ours, theirs) = os.open("/dev/full", os.O_WRONLY), os.pipe()
     os.close(ours)
-    for call in "pack", "show set", "unpack set", "and set set", "--help":
+    for call in "pack", "describe set", "head set", "sum set", "unpack set", "and set set", "--help":
         text = "numbers: standard output: No space left on device (os error 28)\n"
         yield f"{call} to a full disk", program.differs((2, None, text), *call.split(), stdout=full)
         yield f"{call} to a reader that has ended", program.differs((2, None), *call.split(), stdout=theirs)
@@ -219,14 +297,14 @@ def output_cases():
     yield "pack --output new", "new", content, {}
     yield "pack --output old", "old", content, {}
     yield "pack --output -", "-", content, {}
-    yield "pack --binary own --output own", "own", bytes.fromhex("42 01 02 02"), {}
+    yield "pack --as plain --binary own --output own", "own", bytes.fromhex("42 01 02 02"), {}
     yield "unpack ../many --output old", "old", many, {}
     for name in "link", "dangling", "fifo", "folder", ".", "folder/..":
         yield f"pack --output {name}", name, NO_REGULAR, {}
     yield "pack --output nowhere/new", "nowhere/new", MISSING, {}
     yield "pack --output ''", "", MISSING, {}
     yield "pack --output old/new", "old/new", "Not a directory (os error 20)", {}
-    yield "pack --binary old --output old", "old", "the last number has 2 bytes of 4", {}
+    yield "pack --as plain --binary old --output old", "old", "the last number has 2 bytes of 4", {}
     yield "pack --as plain ../text --output old", "old", "File too large (os error 27)", full
 
 
@@ -251,13 +329,28 @@ def outputs(program):
     os.umask(mask)
 
 
+def wrong_changes(folder):
+    """A program with all wrong changes. With a name of its own cargo does not take it for the other one."""
+    program, sources, manifest = Program(folder, "wrong"), f"{folder}/{FOLDER}", f"{folder}/{FOLDER}/Cargo.toml"
+    shutil.copytree(f"{ROOT}/{FOLDER}", sources)
+
+    def built(_):
+        why = changed(manifest, '"../.."', f'"{ROOT}"') or changed(manifest, 'name = "numbers"', 'name = "wrong"')
+        return why or failed(run("cargo", "install", "--path", sources, env=program.env))
+
+    failing = lambda *_: [name for part in (ordering, questions, great) for name, why in part(program) if why]
+    return trying.together(folder, changes.edits_in("number_files"), built, failing)
+
+
 def checks():
     with tempfile.TemporaryDirectory(prefix="numbers-") as folder:
         program = Program(folder)
         yield from of_page(program)
         if os.path.exists(program.path):
-            for part in packing, texts, combining, failing, outputs:
+            for part in ordering, packing, questions, great, texts, combining, failing, outputs:
                 yield from part(program)
+    with tempfile.TemporaryDirectory(prefix="numbers-wrong-") as folder:
+        yield from wrong_changes(folder)
 
 
 if __name__ == "__main__":

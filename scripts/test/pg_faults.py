@@ -42,7 +42,7 @@ SIGNS = {"&": "INTERSECT", "|": "UNION", "-": "EXCEPT"}
 
 
 def dumped(extension, server):
-    """A table that is dumped and restored, the next version of the extension, and binary copies."""
+    """A table that is dumped and restored, and binary copies."""
     ids = "idset(ARRAY(SELECT i * n * 37 FROM generate_series(1, n * 50) i)) AS ids"
     server.rows(f"CREATE TABLE kept AS SELECT n, {ids} FROM generate_series(0, 99) n")
     digest = "SELECT md5(string_agg(n || ids::text, ' ' ORDER BY n)) FROM "
@@ -51,10 +51,6 @@ def dumped(extension, server):
     server.rows("CREATE DATABASE restored")
     restored = [server.psql(dump, "restored")[1], server.psql(digest + "kept", "restored")[0]]
     yield "dumped and restored", other(restored, [0, before])
-    place = f"{extension.programs.folder}{pg_server.config('sharedir')}/extension"
-    written(place, {"idset--1.0--next.sql": "CREATE FUNCTION idset_next() RETURNS int4 LANGUAGE sql AS 'SELECT 2';\n"})
-    updated = "ALTER EXTENSION idset UPDATE TO 'next'; SELECT idset_next(), extversion FROM pg_extension WHERE extname = 'idset'"
-    yield "updated to a next version", other(server.psql(f"{updated}; {digest}kept", "restored")[0], f"2|next\n{before}")
     path = f"{server.socket}/copy"
     server.rows(f"COPY kept TO '{path}' (FORMAT binary); CREATE TABLE copied (LIKE kept); COPY copied FROM '{path}' (FORMAT binary)")
     yield "copied in binary", other(server.rows(digest + "copied"), before)
@@ -137,8 +133,34 @@ def two_servers(extension, first):
     second.stop()
 
 
+def replicated(extension):
+    """A table that logical replication copies, in binary and as text, and then changes: a set, a row beside a set, a new row, and a removed one."""
+    one, two = (extension.server(number).start(wal_level="logical") for number in (10, 11))
+    sets = "SELECT n, n AS other, idset(ARRAY(SELECT i * n FROM generate_series(1, 3000) i)) AS ids FROM generate_series(1, 20) n"
+    one.rows(
+        f"CREATE EXTENSION idset; CREATE TABLE texts AS {sets}; ALTER TABLE texts ADD PRIMARY KEY (n); CREATE TABLE binaries AS {sets}"
+    )
+    one.rows(
+        "ALTER TABLE binaries REPLICA IDENTITY FULL; CREATE PUBLICATION texts FOR TABLE texts; CREATE PUBLICATION binaries FOR TABLE binaries"
+    )
+    two.rows("CREATE EXTENSION idset; CREATE TABLE texts (n int PRIMARY KEY, other int, ids idset); CREATE TABLE binaries (LIKE texts)")
+    for name, binary in {"texts": "off", "binaries": "on"}.items():
+        where = f"host={one.socket} port={one.port} dbname=postgres user=postgres"
+        two.rows(f"CREATE SUBSCRIPTION {name} CONNECTION '{where}' PUBLICATION {name} WITH (binary = {binary})")
+    for name in ("texts", "binaries"):
+        digest = f"SELECT count(*) || md5(string_agg(n || ' ' || other || ids::text, ' ' ORDER BY n)) FROM {name}"
+        yield f"{name} are copied", pg_server.awaited(lambda: two.rows(digest), one.rows(digest))
+        one.rows(f"UPDATE {name} SET ids = ids | 7 WHERE n > 9; UPDATE {name} SET other = 99 WHERE n < 5; DELETE FROM {name} WHERE n = 7")
+        one.rows(f"INSERT INTO {name} VALUES (30, 30, '{{1,2}}')")
+        yield f"{name} are changed there", pg_server.awaited(lambda: two.rows(digest), one.rows(digest))
+        two.rows(f"DROP SUBSCRIPTION {name}")
+    one.stop()
+    two.stop()
+
+
 def checks(extension, first):
     yield from dumped(extension, first)
     yield from two_servers(extension, first)
+    yield from replicated(extension)
     yield from on_disk(extension, 6, checksums=True)
     yield from on_disk(extension, 7, checksums=False)

@@ -15,16 +15,20 @@ import pg_server
 SELF = "SELECT pg_read_file('/proc/self/status'), pg_read_file('/proc/self/stat');"
 TICKS = 100
 TABLES = """CREATE TABLE stored AS SELECT n, idset(ARRAY(SELECT i * 20 + n % 20 FROM generate_series(1, 3000) i)) AS ids FROM generate_series(1, 2000) n;
+CREATE TABLE short AS SELECT n, '{21,41}'::idset AS ids FROM generate_series(1, 2) n;
 CREATE TABLE two AS SELECT idset(ARRAY(SELECT generate_series(1, 40000, 2))) AS a, idset(ARRAY(SELECT generate_series(2, 40000, 2))) AS b;
 CREATE TABLE mixed AS SELECT ARRAY(SELECT (i::int8 * 2654435761 % 2147483647)::int4 FROM generate_series(1, 5000000) i) AS a;
 CREATE TABLE texts AS SELECT '{1,2}' AS ids, '1&2' AS query;
 CREATE FUNCTION has(ids idset, id int8) RETURNS bool LANGUAGE plpgsql AS 'BEGIN RETURN contains(ids, id); END';"""
 CHANGES = "has(CASE n % 2 WHEN 0 THEN a ELSE b END, n)"
+# Long sets of which each comes twice in a row, so that it is kept.
+TWICE = "(SELECT n, ids FROM stored s, generate_series(0, 19) k ORDER BY k / 2, n OFFSET 0) q"
 ALIKE = "(SELECT idset(ARRAY(SELECT generate_series(1, 10000))) AS ids OFFSET 0) q, generate_series(1, 1000)"
 # Statements, what they print, and the most memory in MB.
 SPACE = {
     "a sort frees its copies": ("SELECT count(*) FROM (SELECT ids FROM stored ORDER BY ids OFFSET 0) q", "2000", 60),
     "a parameter that changes is kept once": (f"SELECT count(*) FROM two, generate_series(1, 20000) n WHERE {CHANGES}", "0", 30),
+    "a stored set is kept until another comes": (f"SELECT count(*) FROM {TWICE} WHERE contains(ids, 20 + n % 20)", "40000", 40),
     "an OR keeps each id once": (f"SELECT cardinality(unite_agg(ids)) FROM {ALIKE}", "10000", 30),
     "a XOR keeps each id once": (f"SELECT cardinality(symmetric_difference_agg(ids)) FROM {ALIKE}", "0", 30),
     "an index build frees its copies": ("CREATE INDEX ON stored (n) WHERE ids < '{1,2}'", "", 60),
@@ -78,6 +82,20 @@ def kept_constant(server):
         sql = f"SELECT count(*) FROM generate_series(1, {rows}) i WHERE {call}"
         short, long = (seconds(server, sql.format(it)) for it in ("{16,40}", constant))
         yield f"a constant is opened once: {call}", None if long < 3 * short + 0.3 else f"{short:.2f} and {long:.2f} s"
+
+
+def kept_stored(server):
+    """A set in TOAST is opened once for all rows: those of a subquery take as long as those of a short one."""
+    sql = "SELECT count(*) FROM generate_series(1, 60000) i WHERE (SELECT ids FROM {} WHERE n = 1) @> i"
+    short, long = (seconds(server, sql.format(it)) for it in ("short", "stored"))
+    yield "a stored set is opened once", None if long < 2 * short + 0.1 else f"{short:.2f} and {long:.2f} s"
+
+
+def dense_by_bits(server):
+    """An OR of sets with many ids in common does not sort all their ids: it takes as long as packing them."""
+    calls = "cardinality(unite_agg(ids))", "max(cardinality(ids - 7))"
+    unite, pack = (seconds(server, f"SELECT {it} FROM stored, generate_series(1, 2)") for it in calls)
+    yield "an OR of dense sets", None if unite < 3 * pack + 0.1 else f"{unite:.2f} and {pack:.2f} s"
 
 
 def grows_evenly(server):
@@ -136,6 +154,6 @@ def checks(server, only=None):
     server.rows("DROP DATABASE IF EXISTS measured")
     server.rows("CREATE DATABASE measured")
     server.rows("CREATE EXTENSION idset; " + TABLES, "measured")
-    for check in [space, kept_constant, grows_evenly, results_are_small, can_be_cancelled, ends_if_cancelled]:
+    for check in [space, kept_constant, kept_stored, dense_by_bits, grows_evenly, results_are_small, can_be_cancelled, ends_if_cancelled]:
         if only in (None, check.__name__):
             yield from check(server)

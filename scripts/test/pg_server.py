@@ -120,6 +120,15 @@ class Server:
         return said
 
 
+def awaited(said, wanted):
+    """What is still said after PATIENCE in place of what is wanted, or None."""
+    for _ in range(10 * PATIENCE):
+        if said() == wanted:
+            return None
+        time.sleep(0.1)
+    return f"{said()} in place of {wanted}"
+
+
 def copied_sources(to):
     """Copies the sources of the extension, as a bundle has them, for a user that is not root."""
     paths = [it for it in bundle.paths("x86_64") if it.startswith("postgres/")]

@@ -4,7 +4,7 @@ starts servers as a user that is not root, which listen on sockets alone, and
 
 - runs postgres/sql/ by `make installcheck`, with data checksums, without, and with the address sanitizer;
 - reads the tables of vectors/, makes the longest values, and runs the examples of the page;
-- runs the checks of pg_faults.py and pg_memory.py.
+- runs the checks of pg_faults.py, pg_memory.py, pg_planner.py, pg_update.py and pg_wrong.py.
 
 It is left out without PostgreSQL 15 and its header files.
 """
@@ -21,7 +21,10 @@ from files import bytes_of, other
 import install
 import pg_faults
 import pg_memory
+import pg_planner
 import pg_server
+import pg_update
+import pg_wrong
 import rows
 from pg_server import Programs, Server
 
@@ -230,12 +233,15 @@ def checks():
             yield from longest(first)
             yield from owned(first)
             yield from page(first)
+            yield from pg_update.checks(extension, first)
+            yield from pg_planner.checks(first)
             yield from pg_faults.checks(extension, first)
             first.stop()
             bare = extension.server(8, checksums=False).start(shared_buffers="16MB", work_mem="64MB")
             for name, why in extension.installcheck(bare):
                 yield f"{name} without data checksums", why
             yield from pg_memory.checks(bare)
+            yield from pg_wrong.checks(extension, bare)
             bare.stop()
             yield from sanitized(extension)
         finally:

@@ -2,7 +2,7 @@
 """Builds the package of python/ as its README says, from a folder that scripts/build/install.py wrote. It looks at the wheel, installs it in a
 new virtual environment without an index, and runs there the tests of python/tests/ and the examples of the pages, whose types `mypy --strict`
 has to accept, and MISTAKES, which it has to refuse. Then it builds and installs the package in one step with the address sanitizer, and runs
-the tests once more. Last, some wrong changes of the package have to fail a test of each file.
+the tests once more, and builds it as in a clone, where cargo compiles the library first. Last, some wrong changes of the package have to fail a test of each file.
 
 It takes the first Python, of the one that runs it and /usr/bin/python3, that is 3.11 or later with its header files, and has MODULES.
 """
@@ -20,49 +20,15 @@ sys.path.insert(1, f"{sys.path[0]}/..")
 from common import ROOT, leave_out, missing, run, source, version
 import archives
 import c
-from files import changed, failed, other, written
+from files import failed, other, written
 import install
+import trying
 
 MODULES = ["numpy", "hypothesis", "pytest", "setuptools", "wheel", "build", "pip", "ensurepip"]
 PAGES = ["README.md", "docs/PYTHON.md", "python/README.md"]
-# Wrong changes: a test that has to fail, a file of the package, lines in it and other lines. A file of C is compiled again.
-WRONG = [
-    ("test_id_set.py::test_buffers", "values.py", "if view.obj is data:", "if True:"),
-    ("test_id_set.py::test_any_order", "id_set.py", "np.unique(ids[at : at + PART])", "np.sort(ids[at : at + PART])"),
-    ("test_combining.py::test_any_number", "combining.py", "- 2 * intersect_len(one, last)", "- intersect_len(one, last)"),
-    ("test_query.py::test_trees", "query.py", "low += width", "low += width + 1"),
-    ("test_vectors.py::test_refused_sets", "faults.py", "places[2] + sizes[1] * m, m)", "places[2] + sizes[1] * m, m + 1)"),
-    ("test_threads.py::test_signals_end_calls", "waiting.py", "LONG = 1 << 22", "LONG = 1 << 62"),
-    ("test_threads.py::test_lock_is_released", "core.h", "(size_t)(count) >= MANY ? PyEval_SaveThread() : NULL", "NULL"),
-    ("test_chain.py::test_back", "chain.c", "lanes, bitpacking_##name##_pack_all,", "lanes, bitpacking_1x_pack_all,"),
-    ("test_damaged.py::test_places", "errors.c", "READ_AGAIN + 1", "READ_AGAIN"),
-    ("test_memory.py::test_references", "packed.c", "    PyBuffer_Release(&((Packed *)self)->buffer);\n", ""),
-    ("test_memory.py::test_constant", "arrays.c", "    Py_DECREF(array);\n    if (!part", "    if (!part"),
-    ("test_arrow.py::test_missing_values", "arrow.c", "it->null_count = nulls;", ""),
-    ("test_column_damaged.py::test_damaged", "column.py", "[starts[number] : starts[number + 1]]) == crc", "[0:0]) == 0"),
-    ("test_column_damaged.py::test_only_form_in_pieces", "column_testing.c", "before = code_of(it, &piece, piece.len - 1);", ""),
-    ("test_column_calls.py::test_ctrl_c", "column_packing.c", "return done ? PyErr_CheckSignals() : -1;", "return done ? 0 : -1;"),
-    ("test_column_calls.py::test_constant", "column_search.c", "    free(found.at);\n", ""),
-    ("test_column_calls.py::test_lock_is_released", "column_reading.c", "UNLOCKED(len, failed = gather(", "((void)len, failed = gather("),
-    ("test_column.py::test_types_in", "column_values.py", "is_wide = max(numbers, default=0) >= 1 << 63", "is_wide = False"),
-    ("test_column_inputs.py::test_columns", "column_values.py", "return objects_of(items) if", "return objects_of([*values]) if"),
-    ("test_inputs.py::test_integers", "values.py", "{bool, np.bool_}.isdisjoint(", "{bool}.isdisjoint("),
-    ("test_column_inputs.py::test_types_out", "values.py", "if min(numbers) < first or max(numbers) > last:", "if max(numbers) > last:"),
-    ("test_inputs.py::test_no_iterable", "values.py", "(str, bytes, bytearray, mmap.mmap)", "(bytes, bytearray, mmap.mmap)"),
-    ("test_limits.py::test_units", "limits.py", "month % (_MONTHS[unit] * count) == 0", "True"),
-    ("test_limits.py::test_outside_of_the_unit", "column.py", "min(self._limit(high, -1), last)", "self._limit(high, -1) & last"),
-    ("test_limits.py::test_fill", "column.py", "if value != below:", "if False:"),
-    ("test_query.py::test_any_depth", "query.py", "(yield _within(it, low, high))", "_run(_within(it, low, high)) if it else (yield)"),
-    ("test_query.py::test_parts_grow", "query.py", "            width = min(4 * width, _MOST) if", "            width = width if"),
-    ("test_id_set.py::test_buffers", "values.py", " and memoryview(data).c_contiguous else", " else"),
-    ("test_memory.py::test_slices", "column.py", "return found if abs(step) == 1 else found.copy()", "return found"),
-    ("test_machine.py", "column.py", "data = pickle.PickleBuffer(self.data) if protocol >= 5 else self.tobytes()", "data = self.tobytes()"),
-    ("test_machine.py", "column.py", "hash(bytes(self.data[:_START]))", "hash(bytes(self.data[:5]))"),
-    ("test_column.py::test_searches", "column_search.c", "used += !(bits[at / 8] >> at % 8 & 1);", "used++;"),
-]
 # Mistakes that type checkers have to see, one to a line.
 MISTAKES = """\
-from fimulowen import Column, IdSet, Query, chain, unite
+from fimulowen import BM25, Column, IdSet, Query, Term, best, chain, unite
 IdSet("abc")
 IdSet(1.5)
 IdSet([1.5])
@@ -79,9 +45,19 @@ Column("abc")
 Column([0.5])
 Column([1], True)
 Column.open(5)
+IdSet.of_mask([1, 2])
+IdSet.groups("abc")
+IdSet().mask("5")
+IdSet().rank("5")
+Term([1], [1], [[1] * 256], [0])
+best([IdSet()], 10)
+best([], "10")
+BM25([0.5])
 chain.pack("abc")
 chain.unpack("abc", b"")
 """
+# The line that is printed before cargo compiles the library.
+PROGRESS = "fimulowen: cargo compiles the library, once, in about three minutes on four cores"
 # Seconds for a run of pytest, which has a tenth of a core beside proofs.
 PATIENCE = 1800
 
@@ -190,6 +166,7 @@ def sanitized(package):
     # Memory that is given back stays with the sanitizer for a while, so that rounds of calls take more; it says nothing of locks.
     left_out = ["test_memory.py::test_constant", "test_threads.py::test_lock_is_released"]
     left_out += [f"test_column_calls.py::{it}" for it in ("test_constant", "test_lock_is_released")]
+    left_out += ["test_ranked.py::test_lock_is_released"]
     without = [f"--deselect=tests/{it}" for it in left_out]
     yield package.tested("under the address sanitizer", "tests", *without, **known)
 
@@ -197,12 +174,14 @@ def sanitized(package):
 def compiled(python, prefix, sources, objects, to):
     """Compiles the extension for a Python from sources in C, over the library of a prefix. What the folder of objects has is compiled again if a
     source or a header is newer. Returns what is wrong, or None."""
-    include = run(python, "-c", "import sysconfig; print(sysconfig.get_path('include'))").stdout.strip()
     headers, paths = glob.glob(f"{sources}/*.h"), sorted(glob.glob(f"{sources}/*.c"))
     made = {path: f"{objects}/{os.path.basename(path)[:-2]}.o" for path in paths}
     newest = {path: max(map(os.path.getmtime, [path, *headers])) for path in paths}
     old = [path for path, it in made.items() if not os.path.exists(it) or os.path.getmtime(it) < newest[path]]
-    why = failed(run("cc", "-std=c11", "-O1", "-fPIC", f"-I{include}", f"-I{prefix}/include", "-c", *old, folder=objects))
+    if not old:
+        return None
+    include = run(python, "-c", "import sysconfig; print(sysconfig.get_path('include'))").stdout.strip()
+    why = failed(run("cc", "-std=c11", "-O2", "-fPIC", f"-I{include}", f"-I{prefix}/include", "-c", *old, folder=objects))
     return why or failed(run("cc", "-shared", "-Wl,--exclude-libs,ALL", *made.values(), f"{prefix}/{install.STATIC}", "-o", to))
 
 
@@ -214,27 +193,22 @@ def made(python, prefix, folder):
     return compiled(python, prefix, f"{ROOT}/python/src/core", f"{folder}/objects", f"{folder}/fimulowen/_core.abi3.so")
 
 
-def wrong_change(package, test, name, before, after):
-    """A wrong change as a name, and None if its test fails with it."""
-    folder, in_c = tempfile.mkdtemp(prefix="wrong-", dir=package.folder), name[-2:] in (".c", ".h")
-    shutil.copytree(f"{package.folder}/wheel", folder, dirs_exist_ok=True)
-    shutil.copytree(f"{package.folder}/core", f"{folder}/core")
-    why = changed(f"{folder}/core/{name}" if in_c else f"{folder}/fimulowen/{name}", before, after)
-    if in_c and not why:
-        why = compiled(package.python, package.prefix, f"{folder}/core", f"{folder}/core", f"{folder}/fimulowen/_core.abi3.so")
-    status = None if why else package.pytest("-x", f"tests/{test}", PYTHONPATH=folder).returncode
-    shutil.rmtree(folder)
-    # The test fails, or Python crashes. If the test is not there, cannot be run or takes too long, the status is another one.
-    return f"a wrong change of {name}: {after}", why or (None if status == 1 or not 0 <= status <= 128 else f"{test}: status {status}")
-
-
 def wrong_changes(package):
     """Tries the wrong changes side by side, over what was compiled once."""
     core = f"{package.folder}/core"
     shutil.copytree(f"{package.sources}/src/core", core)
     yield "the extension without a wrong change", compiled(package.python, package.prefix, core, core, f"{package.folder}/core.so")
-    with concurrent.futures.ThreadPoolExecutor(os.cpu_count()) as pool:
-        yield from pool.map(lambda change: wrong_change(package, *change), WRONG)
+
+    def copied(room):
+        shutil.copytree(f"{package.folder}/wheel/fimulowen", f"{room}/python/src/fimulowen")
+        shutil.copytree(core, f"{room}/python/src/core")
+
+    def built(room):
+        sources = f"{room}/python/src/core"
+        return compiled(package.python, package.prefix, sources, sources, f"{room}/python/src/fimulowen/_core.abi3.so")
+
+    tests = trying.by_pytest(lambda room, test: package.pytest("-x", f"tests/{test}", PYTHONPATH=f"{room}/python/src"))
+    yield from trying.each("python", copied, built, tests)
 
 
 def built_in_place(folder, python):
@@ -243,6 +217,33 @@ def built_in_place(folder, python):
     built = run(python, "setup.py", "-q", "build_ext", "--inplace", folder=folder, env=environment)
     done = run(python, "-c", "import fimulowen; print(fimulowen.IdSet([7, 9, 10, 300]))", env=environment)
     return failed(built) or other(done.stdout, "<IdSet of 4 ids in 7 bytes: [7, 9, 10, 300]>\n")
+
+
+# In place of scripts/build/install.py: it writes which words it got, and copies a folder that was installed.
+INSTALL = """import os, shutil, sys
+if "DESTDIR" in os.environ or sys.argv[2:] != ["--from", "cargo"]:
+    sys.exit("wrong words")
+shutil.copytree(os.environ["GIVEN"], sys.argv[1], symlinks=True)
+"""
+
+
+def by_cargo(package):
+    """The checks of the package that is built without BITPACKING and without an archive beside it, as in a clone."""
+    top, words = f"{package.folder}/clone", ["setup.py", "-q", "build_ext", "--inplace"]
+    shutil.copytree(package.sources, f"{top}/python", ignore=shutil.ignore_patterns("build", "*.so"))
+    bare = {name: it for name, it in package.environment.items() if name != "BITPACKING"} | {
+        "DESTDIR": top,
+        "PYTHONPATH": f"{top}/python/src",
+    }
+    built = lambda **more: run(package.python, *words, folder=f"{top}/python", env=bare | more).stdout
+    yield "a folder without a library", None if "setup.py: there is no library: set BITPACKING" in built() else "it is built"
+    written(top, {"scripts/build/install.py": INSTALL})
+    done = built(GIVEN=f"{top}/nothing")
+    told = PROGRESS in done and "setup.py: the library was not compiled" in done
+    yield "a library that is not compiled", None if told else done
+    yield "a library that is compiled first", None if PROGRESS in built(GIVEN=package.prefix) else "there is no line of progress"
+    done = run(package.python, "-c", "import fimulowen; print(fimulowen.IdSet([7, 9, 10, 300]))", folder=top, env=bare)
+    yield "the package over it", other(done.stdout, "<IdSet of 4 ids in 7 bytes: [7, 9, 10, 300]>\n")
 
 
 def checks(python):
@@ -256,7 +257,7 @@ def checks(python):
         pages = [f"{ROOT}/{it}" for it in PAGES]
         examples = ["--doctest-glob=*.md", *pages, "--doctest-modules", "--pyargs", "fimulowen"]
         with concurrent.futures.ThreadPoolExecutor(1) as pool:
-            beside = pool.submit(lambda: [*sanitized(package)])
+            beside = pool.submit(lambda: [*sanitized(package), *by_cargo(package)])
             yield package.tested("of the wheel", "tests")
             yield package.tested("in the pages", *examples)
             yield from typed(package)

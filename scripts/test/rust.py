@@ -23,9 +23,11 @@ sys.path.insert(1, f"{sys.path[0]}/..")
 from common import ROOT, leave_out, missing, reported, run, source, version
 import archives
 import by_cargo
-from files import bytes_of, changed, failed, other, printed, written
+import changes
+from files import bytes_of, failed, other, printed, written
 import instructions
 import levels
+import trying
 import unproved
 
 TARGET = f"{archives.OUT}/target"
@@ -45,17 +47,9 @@ EXAMPLES = {
 PROGRAM = "block"
 FIRST_COPY = {"BITPACKING_FIRST_COPY": "1"}
 # What both copies of the modules share, or the second one calls by a trait: none of it has vectors.
-SHARED = ("bitpacking::growing::", "bitpacking::sets::operation::", "bitpacking::ranking::term::")
+SHARED = ("bitpacking::growing::", "bitpacking::slices::operation::", "bitpacking::ranking::term::")
 # The tests that run under valgrind, by parts of their names.
 FILLING = ["column_reading", "column_searching", "column_appending", "set_combining::two_sets", "set_iter", "do_not_fit"]
-# By test a wrong change that it sees, of a file: what allocates, or trusts what an iterator says. They are made at once.
-WRONG = {
-    "allocations::reading_a_set": ("rust/src/set/query.rs", "if let [set] = self.sets[..]", "if let [set, _] = self.sets[..]"),
-    "allocations::appending_to_a_set": ("crates/bitpack_sets/src/appending.rt", "append_after(&front, set,", "append_unpacked(set,"),
-    "allocations::reading_a_column": ("rust/src/column/unpacking.rs", "Vec::with_capacity(self.len())", "Vec::new()"),
-    "allocations::ranking": ("rust/src/ranked.rs", "most.min(documents)]", "documents]"),
-    "hints::builders": ("rust/src/set/builder.rs", ".min(MOST - self.ids.len())", ""),
-}
 MANIFEST = '[package]\nname = "{}"\nversion = "0.0.0"\nedition = "2024"\n\n[dependencies]\n{}\n'
 
 
@@ -232,7 +226,7 @@ def random():
 
 def changed_sources(folder):
     """Changes in a copy, each as a name and what is wrong, or None. A build has the last line of a source that changed after the build before it;
-    and tests see what WRONG changes."""
+    and tests see wrong changes."""
     unproved.copied(folder)
 
     def built(word, *words):
@@ -240,17 +234,16 @@ def changed_sources(folder):
 
     line = "// It changed."
     yield "cargo check", failed(built("check"))
-    with open(f"{folder}/crates/bitpack_sets/src/pairing.rt", "a", encoding="utf-8") as file:
+    with open(f"{folder}/crates/bitpack_queries/src/pairing.rt", "a", encoding="utf-8") as file:
         file.write(f"{line}\n")
-    done, made = built("check"), glob.glob(f"{folder}/target/debug/build/bitpacking-*/out/sets/pairing.rs")
+    done, made = built("check"), glob.glob(f"{folder}/target/debug/build/bitpacking-*/out/queries/pairing.rs")
     yield "a source that changed is translated again", failed(done) or other([bytes_of(it).decode().count(line) for it in made], [1])
-    for path, before, after in WRONG.values():
-        yield f"a change of {path}", changed(f"{folder}/{path}", before, after)
-    done = built("test", "--lib", "--", *(f"tests::{name}" for name in WRONG))
-    failing = re.findall(r"^test tests::(\S+) \.\.\. FAILED$", done.stdout, re.M)
-    yield from (
-        (f"{name} sees a wrong change", None if name in failing else f"{done.stdout[-2000:]}{done.stderr[-2000:]}") for name in WRONG
-    )
+
+    def failing(_, tests):
+        done = built("test", "--lib", "--", *(f"tests::{it}" for it in tests))
+        return re.findall(r"^test tests::(\S+) \.\.\. FAILED$", done.stdout, re.M)
+
+    yield from trying.together(folder, changes.edits_in("rust"), lambda _: failed(built("test", "--lib", "--no-run")), failing)
 
 
 def checks():

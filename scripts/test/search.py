@@ -1,24 +1,29 @@
 #!/usr/bin/env python3
 """Builds the search engine of examples/search/ in Rust and in C, with warnings as errors, and tries both on the same files: their indexes
 have to be the same bytes, and their answers the same text. The answers on examples/search/corpus/ are compared with `grep`, and the best
-documents with those of ranked.py. Last come a thousand damaged indexes, in C with the address sanitizer.
+documents with those of ranked.py. Then come programs with wrong changes, which a test has to see, and last a thousand damaged indexes, in C with
+the address sanitizer.
 """
+import copy
 import os
 import random
 import re
 import resource
+import shutil
 import struct
 import subprocess
 import sys
 import tempfile
 
 sys.path.insert(1, f"{sys.path[0]}/..")
-from common import ROOT, leave_out, run
+from common import ROOT, Failed, leave_out, run
 import archives
 import c
-from files import bytes_of, failed, other, written
+import changes
+from files import bytes_of, changed, failed, other, written
 import ranked
 import rust
+import trying
 
 FOLDER = "examples/search"
 CORPUS = f"{ROOT}/{FOLDER}/corpus"
@@ -65,6 +70,8 @@ FILES = {
 }
 # Queries that are refused, after which part of them, and why.
 NO_WORD = "a word is missing, or one without a minus"
+NO_PHRASES = "a query has no phrases: without the quotes it finds documents with all words"
+NO_FIELDS = "a query has no fields: a space in place of the colon finds documents with both words"
 REFUSED = {
     "a (b": ("a (b", "a bracket is not closed"),
     "a)": ("a", "no bracket is open"),
@@ -72,6 +79,10 @@ REFUSED = {
     "a | -b": ("a | -b", NO_WORD),
     "' + |": ("' + ", NO_WORD),
     "a* caf\u00E9 (": ("a* caf\u00E9 (", NO_WORD),
+    '"free software"': ("", NO_PHRASES),
+    'water -(warm "': ("water -(warm ", NO_PHRASES),
+    "water title:warm": ("water title", NO_FIELDS),
+    "caf\u00E9: (": ("caf\u00E9", NO_FIELDS),
     # 65 sets wait, one more than a query may have.
     "a -(" * 64 + "a" + ")" * 64: ("a -(" * 64 + "a" + ")" * 64, "too many brackets after a minus are nested"),
 }
@@ -119,6 +130,16 @@ UNORDERED = ["water | warm | hive", "water warm", "(water | bees) winter", "wate
 MISSING, NO_REGULAR = "No such file or directory", "it is no regular file, and is not replaced"
 
 
+def built_in_c(path, sources, *flags):
+    """Compiles sources. Returns the path of the program, and what the compiler did."""
+    return path, run(*c.C99, "-O1", *flags, *sources, f"{archives.OUT}/{archives.ALL}", "-lm", "-o", path)
+
+
+def built_in_rust(name, package):
+    """Builds a package of this name."""
+    return f"{archives.OUT}/target/release/{name}", rust.cargo("build", "--release", package=package)
+
+
 class Programs:
     """The programs, by their names, and what they print."""
 
@@ -128,13 +149,14 @@ class Programs:
         if not sanitizers:
             leave_out("damaged indexes under the address sanitizer", "which cc does not have here")
         for name, flags in [("c", [])] + [("sanitized", c.SANITIZED)] * sanitizers:
-            self.paths[name] = f"{folder}/{name}/search"
             os.mkdir(f"{folder}/{name}")
-            command = [*c.C99, "-O1", *flags, *SOURCES, f"{archives.OUT}/{archives.ALL}", "-lm", "-o", self.paths[name]]
-            self.faults.append(("the program in C", failed(run(*command))))
-        built = rust.cargo("build", "--release", package=f"{FOLDER}/rust")
-        self.faults.append(("the program in Rust", failed(built)))
-        self.paths["rust"] = f"{archives.OUT}/target/release/search"
+            self.add(name, *built_in_c(f"{folder}/{name}/search", SOURCES, *flags))
+        self.add("rust", *built_in_rust("search", f"{FOLDER}/rust"))
+
+    def add(self, name, path, built):
+        """Adds a program, which is at this path, and says what is wrong with what its compiler did."""
+        self.paths[name] = path
+        self.faults.append((f"the program {name}", failed(built)))
 
     def run(self, name, *arguments):
         """The status of a program, what it prints, and its messages."""
@@ -210,14 +232,28 @@ def by_name(programs):
     yield "a word of 64 letters and one of 65", programs.same("find", "--count", index, "x* -y*")[3]
 
 
-def refusals(programs):
-    """Calls that are refused: with a message, and with nothing printed or left over."""
-    index, _ = programs.index("files")
+def refused(programs, calls):
+    """Whether calls are refused by each of the programs: with a message, and with nothing printed or left over."""
+    before = sorted(os.listdir(programs.folder))
+    for what, (arguments, message) in calls.items():
+        for name in programs.paths:
+            status, text, messages = programs.run(name, *arguments)
+            right = (status, text) == (2, "") and message in messages and sorted(os.listdir(programs.folder)) == before
+            yield (name, what), None if right else f"answered {status} {text} {messages}"
+
+
+def wrong_queries(index):
+    """Calls with queries that are refused, by the queries."""
     messages = {query: f"the query, after '{read}': {why}" for query, (read, why) in REFUSED.items()}
     messages["(" * (LONGEST_QUERY + 1)] = "the query is too long"
     messages["(" * LONGEST_QUERY] = f"the query, after '{'(' * LONGEST_QUERY}': {NO_WORD}"
-    queries = ((f"{query[:20]} of {len(query)} letters", query, message) for query, message in messages.items())
-    calls = {name: (["find", index, query], f"search: {index}: {message}\n") for name, query, message in queries}
+    return {query: (["find", index, query], f"search: {index}: {message}\n") for query, message in messages.items()}
+
+
+def refusals(programs):
+    """Calls that are refused."""
+    index, _ = programs.index("files")
+    calls = wrong_queries(index)
     usages = [[], ["seek", index, "a"], ["index", "files"], *(["find", "--best", it, index, "a"] for it in ("x", "-1", "1000"))]
     calls |= {f"the arguments {it}": (it, "search --help says what is wanted") for it in usages}
     paths = {it: NO_REGULAR for it in ("split", "link", "pipe", "/dev/null")} | {"nowhere/new": MISSING}
@@ -227,15 +263,36 @@ def refusals(programs):
     calls["text for an index"] = ["find", "files/b-x", "a"], "files/b-x: this is no index: it does not begin with 'search4'"
     os.symlink(index, f"{programs.folder}/link")
     os.mkfifo(f"{programs.folder}/pipe")
-    before = sorted(os.listdir(programs.folder))
-    for what, (arguments, message) in calls.items():
-        for name in programs.paths:
-            status, text, messages = programs.run(name, *arguments)
-            right = (status, text) == (2, "") and message in messages and sorted(os.listdir(programs.folder)) == before
-            yield f"{what} in {name}", None if right else f"answered {status} {text} {messages}"
+    yield from ((f"{what[:60]} in {name}", why) for (name, what), why in refused(programs, calls))
     for name in programs.paths:
         status, text, messages = programs.run(name, "--help")
         yield f"--help in {name}", None if status == 0 and text.startswith("A small search engine") else f"{status} {messages}"
+
+
+def wrong_changes(programs):
+    """Programs with wrong changes: tests see the queries that each does not refuse as it has to, and no others."""
+    index, _ = programs.index("files")
+    others = copy.copy(programs)
+    others.paths, others.faults = {}, []
+
+    def built(room):
+        # With a name of its own cargo does not take the package for the other one.
+        name = 'name = "search"', 'name = "wrong"'
+        for it, *texts in ("toml", '"../../.."', f'"{ROOT}"'), ("toml", *name), ("lock", *name):
+            others.faults.append((it, changed(f"{room}/{FOLDER}/rust/Cargo.{it}", *texts)))
+        others.add("c", *built_in_c(f"{room}/search", [it.replace(ROOT, room) for it in SOURCES]))
+        others.add("rust", *built_in_rust("wrong", os.path.relpath(f"{room}/{FOLDER}/rust", ROOT)))
+        return next((why for _, why in others.faults if why), None)
+
+    def failing(_, tests):
+        found = {": ".join(what) for what, why in refused(others, wrong_queries(index)) if why}
+        if not found <= set(tests):
+            raise Failed(f"the programs accept {found - set(tests)} too")
+        return found
+
+    with tempfile.TemporaryDirectory(prefix="search-wrong-") as folder:
+        shutil.copytree(f"{ROOT}/{FOLDER}", f"{folder}/{FOLDER}")
+        yield from trying.together(folder, changes.edits_in("search"), built, failing)
 
 
 def damaged(number, whole):
@@ -330,7 +387,7 @@ def checks():
         programs = Programs(folder)
         yield from programs.faults
         if all(why is None for _, why in programs.faults):
-            for part in against_grep, by_name, ranked.checks, refusals, kills, stored, rarest_first, damages:
+            for part in against_grep, by_name, ranked.checks, refusals, wrong_changes, kills, stored, rarest_first, damages:
                 yield from part(programs)
 
 
