@@ -24,7 +24,7 @@ MODULES = ["distributed", *(it for it in python.MODULES if it not in ("hypothesi
 EXAMPLE = "examples/dask"
 # The tests over a cluster, and those without one.
 TESTS = ["../examples/dask/test_index.py", "../examples/dask/test_shards.py"]
-PORT, MARK = "8786", "-- the next command --"
+PORT, MARK, ERRORS = "8786", "-- the next command --", "errors.log"
 PATIENCE = 900
 
 
@@ -45,12 +45,17 @@ def free_port():
 
 
 def printed(folder, commands):
-    """What each command of one shell prints. Whatever it leaves running is ended with its group."""
+    """What each command of one shell prints. Whatever it leaves running is ended with its group.
+
+    Standard error goes to a file: on a busy machine Dask's client may say there that a wait of its own ended."""
     text = "".join(f"{it}\necho '{MARK}'\n" for it in commands)
-    how = {"stdin": subprocess.PIPE, "stdout": subprocess.PIPE, "stderr": subprocess.STDOUT, "text": True, "errors": "replace"}
+    how = {"stdin": subprocess.PIPE, "stdout": subprocess.PIPE, "text": True, "errors": "replace"}
     env = {name: it for name, it in os.environ.items() if name not in ("PYTHONPATH", "BITPACKING")}
     env |= {"LC_ALL": "C.UTF-8", "PIP_DISABLE_PIP_VERSION_CHECK": "1"}
-    with subprocess.Popen(["bash"], cwd=folder, env=env, start_new_session=True, **how) as shell:
+    with (
+        open(f"{folder}/{ERRORS}", "w", encoding="utf-8") as errors,
+        subprocess.Popen(["bash"], cwd=folder, env=env, stderr=errors, start_new_session=True, **how) as shell,
+    ):
         try:
             return shell.communicate(text + "wait\n", timeout=PATIENCE)[0].split(f"{MARK}\n")
         except subprocess.TimeoutExpired:
@@ -66,9 +71,11 @@ def of_page(folder, interpreter):
     # The last command ends the cluster.
     shown.insert(-1, ("python3 -m doctest page.md", ""))
     found = printed(folder, [command for command, _ in shown])
+    with open(f"{folder}/{ERRORS}", encoding="utf-8") as file:
+        errors = file.read()[-3000:]
     for number, (command, wanted) in enumerate(shown):
         said = found[number] if number < len(found) - 1 else "nothing: an earlier one did not end"
-        yield f"{EXAMPLE}/README.md: {command}", None if said == wanted or number == len(shown) - 1 else f"it prints {said[-3000:]}"
+        yield f"{EXAMPLE}/README.md: {command}", None if said == wanted or number == len(shown) - 1 else f"it prints {said[-3000:]}, and all of them {errors}"
     yield "the commands of the page", None if len(shown) > 9 and page.count(">>> ") > 3 else f"there are {len(shown)}"
 
 
