@@ -4,7 +4,7 @@ pub use Rattle.bitpack_slices.proofs.lemmas.bytes.ArrayLaws.{no_fall, quads_len,
 pub use Rattle.bitpack_slices.proofs.lemmas.bits.BitmapLaws.{has_more, has_part, range_cat, those_few, those_raised, those_split}
 pub use Rattle.bitpack_slices.proofs.lemmas.bodies.JoinLaws.{AreParts, below_top, build_are, build_highs, join, numbers_built}
 unfoldable pub use Rattle.bitpack_slices.proofs.lemmas.bodies.JoinLaws.{build}
-pub use Rattle.bitpack_slices.proofs.lemmas.bodies.BodyFaults.{blocks_fault, of_numbers}
+pub use Rattle.bitpack_slices.proofs.lemmas.bodies.BodyFaults.{fault_of_blocks, fault_of_numbers, fault_of_runs, of_numbers}
 pub use Rattle.bitpack_slices.proofs.lemmas.bytes.Bytes.{EachByte, byte_of}
 pub use Rattle.bitpack_slices.proofs.lemmas.bits.CombineLaws.{apply_none}
 pub use Rattle.bitpack_slices.proofs.lemmas.bits.CountLaws.{bytes_are, few_numbers, full_rise, some_numbers}
@@ -28,3 +28,11 @@ pub use Rattle.bitpack_slices.proofs.lemmas.numbers.SelectLaws.{join_at}
 pub use Rattle.bitpack_slices.proofs.lemmas.slices.SelectionLaws.{and_false, map_zero, retained}
 pub use Rattle.bitpack_slices.proofs.lemmas.slices.SliceLaws.{bits_one, bits_room, rising_room, slice_few, slice_many, slice_some}
 pub use Rattle.bitpack_slices.proofs.lemmas.bodies.TestLaws.{blocks_tested, both_true, bytes_taken, counted, counts_of, slice_size, true_both}
+pub use Rattle.bitpack_slices.proofs.lemmas.bodies.BlockReads.{numbers_counted}
+pub use Rattle.bitpack_slices.proofs.lemmas.bodies.BlockTests.{blocks_are_blocks, blocks_known}
+pub use Rattle.bitpack_slices.proofs.lemmas.bodies.PartsJoin.{blocks_read, join_parts, join_rises, parts_are, parts_join}
+pub use Rattle.bitpack_slices.proofs.lemmas.slices.BackLaws.{little_number, one_le_bytes, one_slice, slice_back}
+pub use Rattle.bitpack_slices.proofs.lemmas.bodies.OneBlocks.{append_same, blocks_back, both_blocks, slice_len_same}
+pub use Rattle.bitpack_slices.proofs.lemmas.bodies.RunBodies.{blocks_begin, few_small, runs_begun, runs_len, runs_pass, runs_read}
+pub use Rattle.bitpack_slices.proofs.lemmas.bodies.RunLaws.{bounds_back, bounds_rise, pairs_rise, runs_back, runs_most, runs_rise, some_bounds}
+pub use Rattle.bitpack_slices.proofs.lemmas.bytes.PairLaws.{numbers_back, pairs_back, pairs_below}

@@ -1,5 +1,5 @@
 -- Bitmaps: words of 64 bits, the lowest first. The bitmap of a chunk has 65,536 bits, 256 for each high byte.
-use Rattle.std.specs.Prelude.{◌≡◌, ℕ, ◌/◌, ◌%◌, ◌<◌, ◌&&◌, ◌==◌, true, Bool, List, length, slice_index, slice_index_or}
+use Rattle.std.specs.Prelude.{◌≡◌, ℕ, ◌+◌, ◌*◌, ◌/◌, ◌%◌, ◌<◌, ◌&&◌, ◌==◌, true, Bool, List, length, slice_index, slice_index_or}
 use Rattle.std.specs.Int.{bit_at}
 use Rattle.std.specs.List.{list_any}
 use Rattle.bitpack_slices.specs.Operations.{those}
@@ -20,6 +20,10 @@ Represents highs words xs = (x : ℕ) → x < 65536 → has (x / 256) highs ≡ 
 -- the numbers that have one of these high bytes, and whose bits are 1
 abbrev pub bitmap_numbers : List ℕ → List ℕ → List ℕ
 bitmap_numbers highs words = those 65536 (λ x. has (x / 256) highs && has_bit words x)
+
+-- the low bytes of the numbers that have this high byte, and whose bits are 1
+abbrev pub high_lows : List ℕ → ℕ → List ℕ
+high_lows words high = those 256 (λ i. has_bit words (256 * high + i))
 
 -- the row of each byte has one bit of 256 that is 1, of this number
 pub record AreBits (rows : List (List ℕ)) : Type 0 where

@@ -8,6 +8,7 @@ pub mod Lows
 pub mod Operations
 pub mod Parts
 pub mod Props
+pub mod Runs
 pub mod Reads
 pub mod Selections
 pub mod Bodies

@@ -3,5 +3,7 @@
 pub mod combining;
 pub mod loading;
 pub(crate) mod ones;
+pub(crate) mod ranges;
 pub mod single_bits;
 pub mod unpacking;
+pub mod writing;

@@ -1,18 +1,23 @@
-//! The ids of a key in a set: a list of them, or a body of blocks.
+//! The ids of a key in a set: a list of them, a body of blocks, or runs.
 //! FORMAT.md, "Chunks".
 
 pub(crate) mod mixing;
+pub(crate) mod runs;
 
 ghost use Rattle.std.specs.Prelude.{◌+◌, ◌*◌, ◌%◌, ◌^◌, ◌<◌, ◌≤◌, length, map};
 ghost use Rattle.std.specs.List.{filter};
 ghost use Rattle.bitpack_slices.specs.Follows.{Follow};
 ghost use Rattle.bitpack_slices.specs.Lists.{OfKey, body_lows, listed_ids, retains};
 ghost use Rattle.bitpack_slices.specs.Operations.{combined};
+ghost use Rattle.bitpack_slices.specs.Runs.{runs_from};
 ghost use Rattle.bitpack_slices.specs.Slices.{IsBlocks, block_numbers};
 
+use crate::bitmap::writing::LONGEST_BLOCKS;
 use crate::blocks::Blocks;
 use crate::blocks::combining::{count_combined, unpack_combined};
 use crate::body::mixing::mix;
+use crate::body::runs::{MOST_BOTH, combine_both};
+use crate::chunk::runs::Runs;
 use crate::listed::Listed;
 use crate::listed::filtering::filter;
 use crate::listed::merging::merge;
@@ -25,6 +30,8 @@ pub enum Body<'a> {
     Ids(Listed<'a>),
     /// The low 16 bits of the ids, as blocks.
     Blocks(&'a [u8]),
+    /// The low 16 bits of the ids, as runs. They are made blocks before they are combined.
+    Runs(Runs<'a>),
 }
 
 /// Writes the ids that an operation on two bodies gives, if there is room for all. Returns the index after the last, or one past the slice
@@ -46,7 +53,34 @@ pub fn combine(
     match a {
         Body::Ids(list) => combine_list(operation, key, &list, b, out, at),
         Body::Blocks(body) => combine_blocks(operation, key, body, b, out, at),
+        Body::Runs(runs) => combine_runs(operation, key, runs, b, out, at),
     }
+}
+
+/// Writes the ids that an operation on runs and a body gives, as `combine`.
+#[inline(never)]
+fn combine_runs(
+    operation: Operation,
+    key: u32,
+    runs: Runs,
+    b: Body,
+    out: &mut [u32],
+    at: usize,
+) -> usize
+    requires key { key < 65536 }
+    requires start { at ≤ 2 ^ 32 }
+    requires some { 0 < length (runs_from 0 runs.bounds.now) }
+    requires b { OfKey key b }
+    ensures { Follow (map (λ low. key * 65536 + low) (combined 65536 operation (runs_from 0 runs.entry.bounds.now) (body_lows b.entry))) out.old out.new at result }
+{
+    if let Body::Runs(others) = b
+        && runs.bounds.len() / 2 + others.bounds.len() / 2 <= MOST_BOTH
+    {
+        return combine_both(operation, key, runs, others, out, at);
+    }
+    let mut room = [0; LONGEST_BLOCKS];
+    let size = runs.write_blocks(&mut room);
+    combine_blocks(operation, key, &room[..size], b, out, at)
 }
 
 /// Writes the ids that an operation on a list and a body gives, as `combine`.
@@ -66,12 +100,35 @@ fn combine_list(
 {
     match b {
         Body::Ids(other) => merge(operation, list, &other, out, at),
-        Body::Blocks(body) => match operation {
-            Operation::And => look_up(list, body, true, out, at),
-            Operation::AndNot => look_up(list, body, false, out, at),
-            Operation::Or => mix_list(Operation::Or, key, body, list, out, at),
-            Operation::Xor => mix_list(Operation::Xor, key, body, list, out, at),
-        },
+        Body::Blocks(body) => combine_with_blocks(operation, key, list, body, out, at),
+        Body::Runs(runs) => {
+            let mut room = [0; LONGEST_BLOCKS];
+            let size = runs.write_blocks(&mut room);
+            combine_with_blocks(operation, key, list, &room[..size], out, at)
+        }
+    }
+}
+
+/// Writes the ids that an operation on a list and blocks gives, as `combine`.
+fn combine_with_blocks(
+    operation: Operation,
+    key: u32,
+    list: &Listed,
+    body: &[u8],
+    out: &mut [u32],
+    at: usize,
+) -> usize
+    requires key { key < 65536 }
+    requires start { at ≤ 2 ^ 32 }
+    requires list { OfKey key (Body.Ids list.now) }
+    requires body { IsBlocks (length (block_numbers body.now)) body.now }
+    ensures { Follow (map (λ low. key * 65536 + low) (combined 65536 operation (body_lows (Body.Ids list.now)) (block_numbers body.now))) out.old out.new at result }
+{
+    match operation {
+        Operation::And => look_up(list, body, true, out, at),
+        Operation::AndNot => look_up(list, body, false, out, at),
+        Operation::Or => mix_list(Operation::Or, key, body, list, out, at),
+        Operation::Xor => mix_list(Operation::Xor, key, body, list, out, at),
     }
 }
 
@@ -96,6 +153,11 @@ fn combine_blocks(
             _ => mix_list(operation, key, body, &list, out, at),
         },
         Body::Blocks(other) => combine_slices(operation, key, body, other, out, at),
+        Body::Runs(runs) => {
+            let mut room = [0; LONGEST_BLOCKS];
+            let size = runs.write_blocks(&mut room);
+            combine_slices(operation, key, body, &room[..size], out, at)
+        }
     }
 }
 

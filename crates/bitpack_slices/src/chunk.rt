@@ -1,16 +1,20 @@
-//! Bodies: the numbers of a chunk as numbers of two bytes, or as blocks.
+//! Bodies: the numbers of a chunk as numbers of two bytes, as blocks, or as runs.
 //!
 //! FORMAT.md, "Chunks":
 //!
 //! ```text
 //! numbers    k integers of two bytes, increasing
 //! blocks     r - 1 | slice of the r high bytes that occur | r counts, each less 1 | r slices of low bytes
+//! runs       01 FF | t boundaries of two bytes, increasing
 //! ```
 
+pub mod bounds;
 pub mod parts;
 pub mod reading;
+pub mod runs;
 pub mod search;
 pub mod testing;
+pub mod writing;
 
 ghost use Rattle.std.specs.Prelude.{◌≡◌, ℕ, ◌+◌, ◌^◌, ◌<◌, ◌≤◌, drop, length, map, slice_index, take};
 ghost use Rattle.bitpack_slices.specs.Bitmaps.{Represents, has_bit, has_high};
@@ -22,6 +26,7 @@ use crate::bitmap::loading::{integer_highs, load_integers};
 use crate::blocks::loading::load_blocks;
 use crate::chunk::parts::Parts;
 use crate::chunk::reading::unpack_numbers_from;
+use crate::chunk::runs::Runs;
 use crate::chunk::search::{in_numbers, number_at, rank_in_numbers};
 
 /// The numbers of a chunk: the low 16 bits of its ids.
@@ -31,6 +36,8 @@ pub enum Lows<'a> {
     Numbers(&'a [u8]),
     /// Blocks of them.
     Blocks(&'a [u8]),
+    /// Where runs of them begin and end.
+    Runs(Runs<'a>),
 }
 
 impl<'a> Lows<'a> {
@@ -43,6 +50,7 @@ impl<'a> Lows<'a> {
         match self {
             Lows::Numbers(body) => in_numbers(body, number),
             Lows::Blocks(body) => Parts::new(body).contains(number),
+            Lows::Runs(runs) => runs.contains(number),
         }
     }
 
@@ -55,6 +63,7 @@ impl<'a> Lows<'a> {
         match self {
             Lows::Numbers(body) => rank_in_numbers(body, number),
             Lows::Blocks(body) => Parts::new(body).rank(number),
+            Lows::Runs(runs) => runs.rank(number),
         }
     }
 
@@ -68,6 +77,7 @@ impl<'a> Lows<'a> {
         match self {
             Lows::Numbers(body) => number_at(body, position),
             Lows::Blocks(body) => Parts::new(body).select(position),
+            Lows::Runs(runs) => runs.select(position),
         }
     }
 
@@ -80,6 +90,7 @@ impl<'a> Lows<'a> {
         match self {
             Lows::Numbers(body) => integer_highs(2, body),
             Lows::Blocks(body) => Parts::new(body).high_bits(),
+            Lows::Runs(runs) => runs.high_bits(),
         }
     }
 
@@ -93,6 +104,7 @@ impl<'a> Lows<'a> {
         match self {
             Lows::Numbers(body) => load_integers(2, body, highs, words),
             Lows::Blocks(body) => load_blocks(body, highs, words),
+            Lows::Runs(runs) => runs.load(highs, words),
         }
     }
 
@@ -108,6 +120,7 @@ impl<'a> Lows<'a> {
         match self {
             Lows::Numbers(body) => unpack_numbers_from(body, base, from, out),
             Lows::Blocks(body) => Parts::new(body).unpack_from(base, from, out),
+            Lows::Runs(runs) => runs.unpack_from(base, from, out),
         }
     }
 }

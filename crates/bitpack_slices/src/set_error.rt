@@ -37,7 +37,7 @@ pub enum SetError {
     BadSum(usize),
     /// The body of this chunk does not encode as many numbers as the sums say.
     BadBody(usize),
-    /// The body of this chunk has two bytes for each number, and its blocks are shorter.
+    /// The numbers of this chunk belong in another form.
     LooseBody(usize),
     /// The ids are an array, and the format requires chunks for them.
     LooseForm,
@@ -110,10 +110,7 @@ impl fmt::Display for SetError {
             }
             SetError::BadBody(chunk) => write!(f, "the body of chunk {chunk} is not one"),
             SetError::LooseBody(chunk) => {
-                write!(
-                    f,
-                    "the body of chunk {chunk} is numbers, and its blocks are shorter"
-                )
+                write!(f, "the numbers of chunk {chunk} belong in another form")
             }
             SetError::LooseForm => write!(f, "the ids are an array, and belong in chunks"),
         }

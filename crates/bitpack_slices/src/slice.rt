@@ -11,7 +11,7 @@
 pub(crate) mod matches;
 pub(crate) mod positions;
 pub(crate) mod reading;
-mod rows;
+pub(crate) mod rows;
 pub(crate) mod search;
 pub(crate) mod selecting;
 pub(crate) mod testing;

@@ -1,10 +1,22 @@
 -- Bodies of blocks: where their parts are, when they have no fault, and what is read and loaded from them.
 pub mod BlockReads
+pub mod BlockTests
 pub mod BodyFaults
+pub mod BoundLaws
+pub mod BoundSlices
+pub mod BuildLaws
 pub mod CutLaws
 pub mod JoinLaws
 pub mod LoadLaws
 pub mod LongLaws
+pub mod MergeRuns
 pub mod MixLaws
+pub mod OneBlocks
+pub mod PartLaws
+pub mod PartialLaws
+pub mod PartsJoin
 pub mod ReadLaws
+pub mod RunBodies
+pub mod RunLaws
 pub mod TestLaws
+pub mod WorkedBounds

@@ -5,3 +5,4 @@ pub mod BytesWritten
 pub mod DecodeLaws
 pub mod EqualLaws
 pub mod FollowLaws
+pub mod PairLaws

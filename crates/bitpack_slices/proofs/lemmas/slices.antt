@@ -1,4 +1,5 @@
 -- Slices of the numbers 0 to 255: what tells one, what it matches, and how it is selected from.
+pub mod BackLaws
 pub mod MatchLaws
 pub mod MemberLaws
 pub mod SelectionLaws

@@ -4,10 +4,14 @@
 ghost use Rattle.std.specs.Prelude.{◌≡◌, ◌≢◌, ◌+◌, ◌*◌, ◌/◌, ◌^◌, ◌<◌, ◌≤◌, ℕ, length, None};
 ghost use Rattle.std.specs.Bool.{Decides};
 ghost use Rattle.bitpack_slices.specs.Errors.{Finds};
-ghost use Rattle.bitpack_slices.specs.Faults.{body_fault};
+ghost use Rattle.bitpack_slices.specs.Faults.{blocks_fault, body_fault, runs_fault};
 ghost use Rattle.bitpack_slices.specs.Bodies.{blocks};
+ghost use Rattle.bitpack_slices.specs.Runs.{runs_from};
 ghost use Rattle.bitpack_slices.specs.Slices.{IsBlocks, pairs_of};
 
+use crate::chunk::bounds::{count_in_numbers, most_bounds};
+use crate::chunk::parts::Parts;
+use crate::chunk::runs::{Runs, begins_runs};
 use crate::chunk::search::number_at;
 use crate::set_error::SetError;
 use crate::slice::byte_len;
@@ -22,24 +26,66 @@ pub fn test_body(chunk: usize, position: usize, count: usize, body: &[u8]) -> Re
     ensures { Finds result (body_fault chunk position count body.now) }
 {
     if body.len() != 2 * count {
-        if is_blocks(count, body) {
-            return Ok(());
+        if begins_runs(body) {
+            return test_runs(chunk, count, &body[2..]);
         }
-        return Err(SetError::BadBody(chunk));
+        return test_blocks(chunk, count, body);
     }
     if let Some(position) = first_fall(position, body) {
         return Err(SetError::NotSorted(position));
     }
-    if blocks_len(body) < 2 * count {
+    if count_in_numbers(body) <= most_bounds(count) || blocks_len(body) < 2 * count {
         return Err(SetError::LooseBody(chunk));
     }
     Ok(())
 }
 
+/// Tests a body of blocks of `count` numbers.
+fn test_blocks(chunk: usize, count: usize, body: &[u8]) -> Result<(), SetError>
+    requires some { 1 ≤ count }
+    requires few { count ≤ 65536 }
+    ensures { Finds result (blocks_fault chunk count body.now) }
+{
+    if !is_blocks(count, body) {
+        return Err(SetError::BadBody(chunk));
+    }
+    if Parts::new(body).has_few_bounds(most_bounds(count)) {
+        return Err(SetError::LooseBody(chunk));
+    }
+    Ok(())
+}
+
+/// Tests the boundaries of a body of runs of `count` numbers.
+fn test_runs(chunk: usize, count: usize, bounds: &[u8]) -> Result<(), SetError>
+    requires some { 1 ≤ count }
+    requires few { count ≤ 65536 }
+    ensures { Finds result (runs_fault chunk count bounds.now) }
+{
+    if !are_runs(count, bounds) {
+        return Err(SetError::BadBody(chunk));
+    }
+    if bounds.len() / 2 > most_bounds(count) {
+        return Err(SetError::LooseBody(chunk));
+    }
+    Ok(())
+}
+
+/// Whether bytes are the boundaries of runs of `count` numbers.
+fn are_runs(count: usize, bounds: &[u8]) -> bool
+    ensures { result ≡ Rattle.bitpack_slices.specs.Runs.are_runs count bounds.now }
+{
+    if bounds.is_empty() || bounds.len() % 2 != 0 {
+        return false;
+    }
+    if let Some(_) = first_fall(0, bounds) {
+        return false;
+    }
+    Runs { bounds }.len() == count
+}
+
 /// The first position whose number is not above the one before, in a body of numbers whose first one has this position.
 fn first_fall(position: usize, body: &[u8]) -> Option<usize>
-    requires few { length body.now ≤ 131072 }
-    requires position { position ≤ 2 ^ 32 }
+    requires { position ≤ 2 ^ 32 }
     ensures { result ≡ Rattle.bitpack_slices.specs.Slices.first_fall position (pairs_of body.now) }
 {
     for index in 1..body.len() / 2 {

@@ -86,9 +86,9 @@ past base n left v four ys e w =
           ∙ ap (map (λ i. base + i)) (sym same);
     }
 
-one_written : (base n left : ℕ) (four ys : List ℕ) → base + 64 ≤ 2 ^ 32 → 0 < left → left < 2 ^ 64 → n < length four → AreWritten base n left four ys
-    → AreWritten base (n + 1) (cleared left) (set four n ((base + trailing_zeros w64 left) % 2 ^ 32)) ys
-one_written base n left four ys fits pos small room w =
+one_written : (top base n left : ℕ) (four ys : List ℕ) → base + 64 ≤ top → 0 < left → left < 2 ^ 64 → n < length four → AreWritten base n left four ys
+    → AreWritten base (n + 1) (cleared left) (set four n ((base + trailing_zeros w64 left) % top)) ys
+one_written top base n left four ys fits pos small room w =
     let t = trailing_zeros w64 left in
     let next = next_is left pos small in
     let within : t < 64 = next.within in
@@ -97,22 +97,22 @@ one_written base n left four ys fits pos small room w =
     let both : t ∷ ones_from (cleared left) 0 64 ≡ get_or ys n 0 ∷ drop (n + 1) ys = sym next.ones ∙ w.rest ∙ drop_more ys n 0 more in
     let first : t ≡ get_or ys n 0 = cc in
     let rest : ones_from (cleared left) 0 64 ≡ drop (n + 1) ys = cc in
-    let v : (base + t) % 2 ^ 32 ≡ base + get_or ys n 0 = mod-eq_of_lt (omega arith) ∙ ap (λ (m : ℕ). base + m) first in
+    let v : (base + t) % top ≡ base + get_or ys n 0 = mod-eq_of_lt (omega arith) ∙ ap (λ (m : ℕ). base + m) first in
     let long : length (take n ys) ≡ n = length-take-le n ys (omega arith) in
     let long' : length (take (n + 1) ys) ≡ n + 1 = length-take-le (n + 1) ys (omega arith) in
     record {
       rest = rest;
-      values = ap (λ (m : ℕ). take m (set four n ((base + t) % 2 ^ 32))) long' ∙ take_more_set four n ((base + t) % 2 ^ 32) room
+      values = ap (λ (m : ℕ). take m (set four n ((base + t) % top))) long' ∙ take_more_set four n ((base + t) % top) room
           ∙ ap (λ (m : ℕ). take n four ++ m ∷ []) v
           ∙ ap (λ (l : List ℕ). l ++ (base + get_or ys n 0) ∷ []) (sym (ap (λ (m : ℕ). take m four) long) ∙ w.values)
           ∙ sym (map-append (λ i. base + i) (take n ys) (get_or ys n 0 ∷ [])) ∙ ap (map (λ i. base + i)) (sym (take_more ys n 0 more));
     }
 
-pub next_written : (base n left : ℕ) (four ys : List ℕ) → base + 64 ≤ 2 ^ 32 → left < 2 ^ 64 → n < length four → AreWritten base n left four ys
-    → AreWritten base (n + 1) (cleared left) (set four n ((base + trailing_zeros w64 left) % 2 ^ 32)) ys
-next_written base n left four ys fits small room w = elim (cases_eq left 0) [
-  | inl none ↦ past base n left ((base + trailing_zeros w64 left) % 2 ^ 32) four ys none w
-  | inr some ↦ one_written base n left four ys fits (omega arith) small room w
+pub next_written : (top base n left : ℕ) (four ys : List ℕ) → base + 64 ≤ top → left < 2 ^ 64 → n < length four → AreWritten base n left four ys
+    → AreWritten base (n + 1) (cleared left) (set four n ((base + trailing_zeros w64 left) % top)) ys
+next_written top base n left four ys fits small room w = elim (cases_eq left 0) [
+  | inl none ↦ past base n left ((base + trailing_zeros w64 left) % top) four ys none w
+  | inr some ↦ one_written top base n left four ys fits (omega arith) small room w
 ]
 
 -- ---- four more

@@ -14,7 +14,7 @@ bits_append (x ∷ xs) ys = let e : bits (xs ++ ys) ≡ bits xs + bits ys = bits
 ring : (p q b : ℕ) → p * q + b * p ≡ (q + b) * p
 ring p q b = grind arith
 
-bits_raised : (k : ℕ) (xs : List ℕ) → bits (map (λ i. k + i) xs) ≡ bits xs * 2 ^ k
+pub bits_raised : (k : ℕ) (xs : List ℕ) → bits (map (λ i. k + i) xs) ≡ bits xs * 2 ^ k
 unfolding bits
 bits_raised k [] = omega arith
 bits_raised k (x ∷ xs) =

@@ -1,6 +1,7 @@
 -- The rank of a number among those of a body of blocks.
-use Rattle.std.proofs.Common.{◌≡◌, ℕ, zero, suc, ◌+◌, ◌*◌, ◌/◌, ◌%◌, ◌<◌, ◌≤◌, true, false, List, [], ◌∷◌, take, drop, length, get_or, refl, sym, ap, ◌∙◌, arith, subst}
-use Rattle.std.proofs.lemmas.List.{drop-drop}
+use Rattle.std.proofs.Common.{◌≡◌, ℕ, zero, suc, ◌+◌, ◌*◌, ◌/◌, ◌%◌, ◌<◌, ◌≤◌, true, false, List, [], ◌∷◌, map, length-append, take, drop, length, get_or, refl, sym, ap, ◌∙◌, arith, subst}
+use Rattle.std.proofs.lemmas.List.{drop-drop, length-map}
+use Rattle.bitpack_slices.proofs.lemmas.bodies.CutLaws.{counts_len}
 use Rattle.bitpack_slices.proofs.lemmas.bodies.JoinLaws.{build, build_are, build_highs, numbers_built}
 use Rattle.bitpack_slices.proofs.lemmas.numbers.JoinReads.{none, rank_join, rank_join_not}
 use Rattle.bitpack_slices.proofs.lemmas.bodies.LongLaws.{counts, keys, total}
@@ -8,7 +9,7 @@ use Rattle.bitpack_slices.proofs.lemmas.bodies.ReadLaws.{slice_at}
 use Rattle.bitpack_slices.proofs.lemmas.bytes.Bytes.{EachByte}
 use Rattle.bitpack_slices.specs.Reads.{has, rank}
 use Rattle.bitpack_slices.specs.Bodies.{IsRising}
-use Rattle.bitpack_slices.specs.Slices.{AreSlices, IsSlice, numbers_in, numbers_of, slice_len, slice_numbers, slices_len}
+use Rattle.bitpack_slices.specs.Slices.{AreSlices, IsBlocks, IsSlice, block_numbers, numbers_in, numbers_of, slice_len, slice_numbers, slices_len}
 
 pub build_total : (i : ℕ) (hs cs bytes : List ℕ) → length hs ≡ length cs → AreSlices cs bytes → total (take i (counts (build hs cs bytes))) ≡ numbers_in (take i cs)
 unfolding build numbers_in
@@ -62,3 +63,25 @@ slice_there zero (less ∷ cs) bytes (room, is, later) lt = is
 slice_there (suc i) (less ∷ cs) bytes (room, is, later) lt =
     subst (λ (l : List ℕ). IsSlice (get_or cs i 0 + 1) (take (slice_len (get_or cs i 0 + 1)) l)) (drop-drop (slices_len (take i cs)) (slice_len (less + 1)) bytes)
     (slice_there i cs (drop (slice_len (less + 1)) bytes) later (omega arith))
+
+pub numbers_counted : (hs counts bytes : List ℕ) → length hs ≡ length counts → AreSlices counts bytes → length (numbers_of hs counts bytes) ≡ numbers_in counts
+unfolding numbers_of numbers_in
+numbers_counted [] [] bytes e are = refl
+numbers_counted [] (less ∷ counts) bytes e are = absurd (omega arith)
+numbers_counted (h ∷ hs) [] bytes e are = absurd (omega arith)
+numbers_counted (h ∷ hs) (less ∷ counts) bytes e (room, is, later) =
+    let low = slice_numbers (less + 1) (take (slice_len (less + 1)) bytes) in
+    let bytes' = drop (slice_len (less + 1)) bytes in
+    let one = length-append (map (λ low. h * 256 + low) low) (numbers_of hs counts bytes') in
+    let two = length-map low (λ low. h * 256 + low) in
+    let three = is.count_is in
+    let ih = numbers_counted hs counts bytes' (omega arith) later in
+    omega arith
+
+-- blocks of a count of numbers have so many
+pub blocks_counted : (count : ℕ) (body : List ℕ) → IsBlocks count body → length (block_numbers body) ≡ count
+blocks_counted count body is =
+    let many : ℕ = get_or body 0 0 + 1 in
+    let hs : List ℕ = slice_numbers many (take (slice_len many) (drop 1 body)) in
+    let cs : List ℕ = take many (drop (1 + slice_len many) body) in
+    numbers_counted hs cs (drop (1 + slice_len many + many) body) (is.highs.count_is ∙ sym (counts_len (slice_len many) many body is.room)) is.slices ∙ is.count_is

@@ -64,7 +64,7 @@ parts_joined out written before xs k n least next e w first last =
     ap (λ ys. ys ++ ids_from next xs) (e ∙ ap (λ ys. before ++ ys) w) ∙ append_assoc before (take n (drop k xs)) (ids_from next xs)
     ∙ ap (λ ys. before ++ ys) (ap (λ ys. take n (drop k xs) ++ ys) (sym last ∙ drop_twice k n xs) ∙ take-append-drop n (drop k xs) ∙ first)
 
-rising_lt : (low high i j : ℕ) (xs : List ℕ) → IsRising low high xs → i < j → j < length xs → get_or xs i 0 < get_or xs j 0
+pub rising_lt : (low high i j : ℕ) (xs : List ℕ) → IsRising low high xs → i < j → j < length xs → get_or xs i 0 < get_or xs j 0
 rising_lt low high i j [] r h l = absurd (omega arith)
 rising_lt low high i zero (x ∷ xs) r h l = absurd (omega arith)
 rising_lt low high zero (suc j) (x ∷ xs) r h l = omega (arith, rising_at (x + 1) high j xs r.1 (omega arith))

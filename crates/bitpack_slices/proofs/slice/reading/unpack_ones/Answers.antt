@@ -1,5 +1,5 @@
 -- Four numbers more are written.
-use Rattle.std.proofs.Common.{ℕ, ◌≡◌, ◌+◌, ◌-◌, ◌≤◌, ◌∙◌, ap, sym, subst, arith, rules, take, drop, length}
+use Rattle.std.proofs.Common.{ℕ, ◌≡◌, ◌+◌, ◌-◌, ◌^◌, ◌≤◌, ◌∙◌, ap, sym, subst, arith, rules, take, drop, length}
 use borrow.Rule.Slice.PartMut.{put_mid}
 use Rattle.bitpack_slices.proofs.lemmas.bits.CountLaws.{ones_counted}
 use Rattle.bitpack_slices.proofs.lemmas.bits.FourLaws.{AreOut, AreWritten, all_out, fewer_left, four_long, four_more, next_written, none_out, none_written, room_for}
@@ -34,7 +34,7 @@ loop-i-preserved c =
     let room = room_for c.args.at c.loop-left.next c.loop-left.left c.args.word (length c.loop-left.out) c.loop-left-test.true c.loop-left.auto.left-fits.fits c.loop-left.invariant.start o.fours
     o.rest (omega arith) in
     let size = four_long c.loop-left.next c.loop-left.out c.loop-i.four room c.loop-i.auto.four in
-    next_written c.args.base c.loop-i.i c.loop-i.left c.loop-i.four (ones_from c.loop-left.left 0 64) c.requires.fits c.loop-i.auto.left-fits.fits (omega arith) c.loop-i.invariant
+    next_written (2 ^ 32) c.args.base c.loop-i.i c.loop-i.left c.loop-i.four (ones_from c.loop-left.left 0 64) c.requires.fits c.loop-i.auto.left-fits.fits (omega arith) c.loop-i.invariant
 
 -- the four are written
 written : (c : goal.After-slice_known-1) → AreWritten c.args.base 4 c.loop-i.left c.loop-i.four (ones_from c.loop-left.left 0 64)
