@@ -1,6 +1,7 @@
 -- What a reader finds in a set in chunks. The rest of its bytes is what is after the count of chunks.
 use Rattle.std.specs.Prelude.{ℕ, zero, suc, ◌+◌, ◌-◌, ◌*◌, ◌/◌, ◌%◌, ◌==◌, if◌then◌else◌, List, map, length, take, drop, slice_index}
 use Rattle.std.specs.List.{flat_map, range_with_len}
+use Rattle.bitpack_slices.specs.Runs.{begins_runs, runs_from}
 use Rattle.bitpack_slices.specs.Slices.{block_numbers, pairs_of}
 use Rattle.bitpack_sets.specs.Varints.{short_at}
 
@@ -44,9 +45,9 @@ body_at chunks rest m = take (size_at chunks rest m) (drop (bodies_start chunks 
 abbrev pub bodies_end : ℕ → List ℕ → ℕ
 bodies_end chunks rest = bodies_start chunks rest + before (end_at chunks rest) chunks
 
--- the numbers of a body of `count`: its size tells what it is
+-- the numbers of a body of `count`: its size or its first two bytes tell what it is
 abbrev pub body_numbers_of : ℕ → List ℕ → List ℕ
-body_numbers_of count body = if length body == 2 * count then pairs_of body else block_numbers body
+body_numbers_of count body = if length body == 2 * count then pairs_of body else if begins_runs body then runs_from 0 (drop 2 body) else block_numbers body
 
 -- chunk m: its key and its numbers
 abbrev pub chunk_at : ℕ → List ℕ → ℕ → ℕ × List ℕ

@@ -5,6 +5,7 @@ pub use Rattle.bitpack_groups.specs.Packed.{least_width}
 unfoldable pub use Rattle.bitpack_groups.specs.Packed.{group, groups, packed, width_from}
 use Rattle.bitpack_sets.specs.Varints.{byte_count, groups_of, number}
 use Rattle.bitpack_slices.specs.Bodies.{IsRising, blocks, le_bytes, numbers, parts}
+use Rattle.bitpack_slices.specs.Runs.{are_few, boundaries, runs}
 
 -- the list is a set of ids
 pub record IsSet (ids : List ℕ) : Type 0 where
@@ -13,7 +14,10 @@ pub record IsSet (ids : List ℕ) : Type 0 where
 
 -- the body of a chunk of numbers below 2 ^ 16
 unfoldable pub body : List ℕ → List ℕ
-body chunk = if nat_lt (length (blocks chunk)) (2 * length chunk) then blocks chunk else numbers chunk
+body chunk =
+    if are_few (length (boundaries chunk)) (length chunk) then runs (boundaries chunk)
+    else if nat_lt (length (blocks chunk)) (2 * length chunk) then blocks chunk
+    else numbers chunk
 
 -- ---- the encoding of 128 ids or more: in chunks, or an array of ids that lie far apart
 

@@ -224,6 +224,7 @@ impl<'a> Chunks<'a> {
         match self.lows(position) {
             Lows::Numbers(body) => Body::Ids(Listed::numbers(key * 65536, body)),
             Lows::Blocks(body) => Body::Blocks(body),
+            Lows::Runs(runs) => Body::Runs(runs),
         }
     }
 

@@ -7,6 +7,7 @@ ghost use Rattle.bitpack_sets.specs.Forms.{directory_ids};
 
 use crate::directory::{Directory, begin_at, bodies_start, count_before, end_at, key_at};
 use bitpack_slices::chunk::reading::{unpack_blocks, unpack_numbers};
+use bitpack_slices::chunk::runs::{Runs, begins_runs};
 
 impl<'a> Directory<'a> {
     /// Writes all ids.
@@ -74,6 +75,11 @@ impl<'a> Directory<'a> {
         let base = key_at(self.chunks, self.rest, chunk) as u32 * 65536;
         if body.len() == 2 * self.count_of(chunk) {
             return unpack_numbers(body, base, out, at);
+        }
+        if begins_runs(body) {
+            let end = at + self.count_of(chunk);
+            Runs::new(body).unpack_from(base, 0, &mut out[at..end]);
+            return end;
         }
         unpack_blocks(body, &self.rest[start + begin..], base, out, at)
     }

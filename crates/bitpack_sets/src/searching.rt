@@ -9,6 +9,7 @@ ghost use Rattle.bitpack_slices.specs.Reads.{has, rank};
 
 use crate::directory::{Directory, begin_at, bodies_start, count_before, end_at, key_at, sum_at};
 use bitpack_slices::chunk::Lows;
+use bitpack_slices::chunk::runs::{Runs, begins_runs};
 use bitpack_slices::chunk::search::{number_at, rank_in_numbers};
 
 impl<'a> Directory<'a> {
@@ -102,6 +103,9 @@ impl<'a> Directory<'a> {
         let body = self.body(chunk);
         if body.len() == 2 * self.count_of(chunk) {
             return Lows::Numbers(body);
+        }
+        if begins_runs(body) {
+            return Lows::Runs(Runs::new(body));
         }
         Lows::Blocks(body)
     }

@@ -1,5 +1,4 @@
 -- The one encoding of a set, by its form, its chunks and their bodies.
-pub mod BlocksLaws
 pub mod BodyLaws
 pub mod ByteLaws
 pub mod ChunkEncodings
@@ -9,4 +8,3 @@ pub mod FewLaws
 pub mod LongLaws
 pub mod RoomLaws
 pub mod ShortLaws
-pub mod SliceLaws

@@ -9,4 +9,3 @@ pub mod GapLaws
 pub mod KnownLaws
 pub mod MoreLaws
 pub mod RefusalLaws
-pub mod TestLaws

@@ -1,7 +1,6 @@
 -- What is looked up in a set, and its ids from a position on.
 pub mod ChunkReads
 pub mod HalfLaws
-pub mod JoinLaws
 pub mod JoinReads
 pub mod KeyLaws
 pub mod PositionLaws

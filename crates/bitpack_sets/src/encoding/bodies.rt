@@ -1,11 +1,13 @@
 //! Writes bodies.
 //! FORMAT.md, "Chunks".
 
-ghost use Rattle.std.specs.Prelude.{◌≡◌, ◌<◌, length};
+ghost use Rattle.std.specs.Prelude.{◌≡◌, ◌<◌, IfSome, IsNone, false, length, true};
+ghost use Rattle.bitpack_slices.specs.Runs.{are_few, boundaries};
 ghost use Rattle.bitpack_slices.specs.Bodies.{blocks, parts};
 ghost use Rattle.bitpack_sets.specs.Sets.{body};
 ghost use Rattle.bitpack_sets.specs.Written.{IsChunk, counts, highs, lows, slice_ends, slices};
 
+use bitpack_slices::chunk::writing::write_runs;
 use bitpack_slices::integers::write_integers;
 use bitpack_slices::slice::byte_len;
 use bitpack_slices::slice::writing::{copy_lows, write_slice};
@@ -13,17 +15,24 @@ use bitpack_slices::slice::writing::{copy_lows, write_slice};
 /// The most numbers of a slice.
 const LONGEST_SLICE: usize = 256;
 
-/// Writes the body of a chunk of `count` slices.
-pub(crate) fn write_body(ids: &[u32], count: usize, out: &mut [u8])
+/// Writes the body of a chunk. `slices` is the number of its slices, or `None` if the body is runs.
+pub(crate) fn write_body(ids: &[u32], slices: Option<usize>, out: &mut [u8])
     requires chunk { IsChunk ids.now }
-    requires count { count ≡ length (parts 256 (lows ids.now)) }
+    requires some { 0 < length ids.now }
+    requires runs { IsNone slices → are_few (length (boundaries (lows ids.now))) (length ids.now) ≡ true }
+    requires blocks { IfSome slices (λ count. (count ≡ length (parts 256 (lows ids.now))) × (are_few (length (boundaries (lows ids.now))) (length ids.now) ≡ false)) }
     requires size { length out.old ≡ length (body (lows ids.now)) }
     ensures { out.new ≡ body (lows ids.now) }
 {
-    if out.len() < 2 * ids.len() {
-        write_blocks(ids, count, out);
-    } else {
-        write_integers(2, ids, out);
+    match slices {
+        None => write_runs(ids, out),
+        Some(count) => {
+            if out.len() < 2 * ids.len() {
+                write_blocks(ids, count, out);
+            } else {
+                write_integers(2, ids, out);
+            }
+        }
     }
 }
 

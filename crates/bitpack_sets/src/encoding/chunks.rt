@@ -10,7 +10,7 @@ ghost use Rattle.bitpack_sets.specs.Varints.{number};
 ghost use Rattle.bitpack_sets.specs.Written.{bodies, directory, ends_encoding, head, keys_encoding, sums_encoding};
 
 use crate::encoding::bodies::write_body;
-use crate::encoding::measuring::{body_len, measure_slices};
+use crate::encoding::measuring::measure_body;
 use crate::encoding::runs::{CHUNK_BITS, run_len};
 use bitpack_groups::{byte_count, number_len, write_at, write_number};
 use bitpack_slices::integers::write_integers;
@@ -145,9 +145,8 @@ pub(crate) fn write_entries(
     while !left.is_empty() {
         let run = run_len(CHUNK_BITS, left);
         let chunk = &left[..run];
-        let (count, slices) = measure_slices(chunk);
-        let size = body_len(run, count, slices);
-        write_body(chunk, count, &mut out[end..end + size]);
+        let (slices, size) = measure_body(chunk);
+        write_body(chunk, slices, &mut out[end..end + size]);
         end += size;
         sum += run;
         write_at(index, 2, left[0] >> CHUNK_BITS, keys);

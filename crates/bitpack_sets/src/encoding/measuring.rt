@@ -1,13 +1,15 @@
 //! How many bytes the bodies of a set have.
 //! FORMAT.md, "Chunks".
 
-ghost use Rattle.std.specs.Prelude.{◌≡◌, ℕ, List, ◌*◌, ◌<◌, ◌≤◌, length};
+ghost use Rattle.std.specs.Prelude.{◌≡◌, ℕ, List, ◌*◌, ◌<◌, ◌≤◌, IfSome, IsNone, false, length, true};
 ghost use Rattle.std.specs.List.{concat};
 ghost use Rattle.bitpack_slices.specs.Bodies.{parts};
+ghost use Rattle.bitpack_slices.specs.Runs.{are_few, boundaries};
 ghost use Rattle.bitpack_sets.specs.Sets.{IsSet, body};
 ghost use Rattle.bitpack_sets.specs.Written.{IsChunk, bodies, capped, lows, slices};
 
 use crate::encoding::runs::{CHUNK_BITS, run_len};
+use bitpack_slices::chunk::bounds::{count_in_ids, most_bounds};
 use bitpack_slices::slice::byte_len;
 
 /// How many chunks a set has.
@@ -38,11 +40,28 @@ pub(crate) fn measure_bodies(ids: &[u32]) -> usize
     let mut bodies = 0;
     while !left.is_empty() {
         let run = run_len(CHUNK_BITS, left);
-        let (count, size) = measure_slices(&left[..run]);
-        bodies += body_len(run, count, size);
+        bodies += measure_body(&left[..run]).1;
         left = &left[run..];
     }
     bodies
+}
+
+/// The number of slices of a chunk, or `None` if its body is runs; and how many bytes its body has.
+pub(crate) fn measure_body(ids: &[u32]) -> (Option<usize>, usize)
+    requires chunk { IsChunk ids.now }
+    requires some { 0 < length ids.now }
+    requires few { length ids.now ≤ 65536 }
+    ensures size { result.1 ≡ length (body (lows ids.now)) }
+    ensures small { result.1 ≤ 2 * length ids.now }
+    ensures runs { IsNone result.0 → are_few (length (boundaries (lows ids.now))) (length ids.now) ≡ true }
+    ensures blocks { IfSome result.0 (λ count. (count ≡ length (parts 256 (lows ids.now))) × (are_few (length (boundaries (lows ids.now))) (length ids.now) ≡ false)) }
+{
+    let bounds = count_in_ids(ids);
+    if bounds <= most_bounds(ids.len()) {
+        return (None, 2 + 2 * bounds);
+    }
+    let (count, slices) = measure_slices(ids);
+    (Some(count), body_len(ids.len(), count, slices))
 }
 
 /// The number of slices of a chunk, and of their bytes. A slice has a byte for each id, at most 32, and none for 256 ids.
@@ -79,13 +98,13 @@ fn count_within(most: usize, ids: &[u32]) -> usize
     most + count as usize
 }
 
-/// How many bytes the body of a chunk has, of `len` ids in `count` slices, which have `size` bytes.
+/// How many bytes the body of a chunk has that is no runs, of `len` ids in `count` slices, which have `size` bytes.
 pub(crate) fn body_len(len: usize, count: usize, size: usize) -> usize
     requires len { len ≤ 65536 }
     requires count { count ≤ len }
     requires size { size ≤ len }
     ensures few { result ≤ 2 * len }
-    ensures len { (numbers : List ℕ) → length numbers ≡ len → length (parts 256 numbers) ≡ count
+    ensures len { (numbers : List ℕ) → are_few (length (boundaries numbers)) (length numbers) ≡ false → length numbers ≡ len → length (parts 256 numbers) ≡ count
         → length (slices (parts 256 numbers)) ≡ size → result ≡ length (body numbers) }
 {
     let blocks = 1 + byte_len(count) + count + size;

@@ -1,141 +1,94 @@
--- A body and its count determine its numbers.
-use Rattle.std.proofs.Common.{◌≡◌, ℕ, ◌+◌, ◌*◌, ◌-◌, ◌<◌, ◌≤◌, List, [], ◌∷◌, ◌++◌, map, length, refl, sym, ap, ◌∙◌, arith, lit<, inl, inr, length-append}
-use Rattle.std.proofs.lemmas.List.{length-map}
-use Rattle.std.specs.List.{flat_map}
-use Rattle.std.proofs.lemmas.Bool.{cases_lt, cond_above, cond_below}
-use Rattle.bitpack_groups.proofs.ForCallers.{little_len}
-use Rattle.bitpack_slices.proofs.ForCallers.{AreParts, join, rising_room, slice_few, slice_many, slice_some}
-use Rattle.bitpack_sets.proofs.lemmas.reads.JoinLaws.{join_parts, parts_are}
-use Rattle.bitpack_sets.proofs.lemmas.encodings.SliceLaws.{one_le_bytes, one_slice}
+-- The three forms of a body, and the numbers that it is read as.
+use Rattle.std.proofs.Common.{◌≡◌, ◌⊎◌, ℕ, ◌*◌, ◌<◌, ◌≤◌, Bool, true, false, ltb, List, [], ◌∷◌, drop, length, cond, refl, sym, ap, ◌∙◌, arith, inl, inr, eq-eqb}
+use Rattle.std.proofs.lemmas.Bool.{cases_lt, cond_above, cond_below, ne_eqb}
+use Rattle.bitpack_slices.proofs.ForCallers.{blocks_are_blocks, blocks_back, blocks_begin, bounds_rise, few_small, numbers_back, runs_back, runs_begun, runs_len, runs_read, some_bounds}
 use Rattle.bitpack_sets.proofs.lemmas.words.Words.{OneBody}
-use Rattle.bitpack_slices.specs.Bodies.{IsRising, bits, blocks, blocks_of, le_bytes, numbers, parts, slice}
+use Rattle.bitpack_slices.specs.Bodies.{IsRising, blocks, le_bytes, numbers}
+use Rattle.bitpack_slices.specs.Runs.{are_few, begins_runs, boundaries, run_numbers, runs, runs_from}
+use Rattle.bitpack_slices.specs.Slices.{block_numbers, pairs_of}
+use Rattle.bitpack_sets.specs.Directory.{body_numbers_of}
 use Rattle.bitpack_sets.specs.Sets.{body}
-
-pub append_same : (a a' b b' : List ℕ) → length a ≡ length a' → a ++ b ≡ a' ++ b' → (a ≡ a') × (b ≡ b')
-append_same [] [] b b' h e = (refl, e)
-append_same [] (y ∷ a') b b' h e = absurd (omega arith)
-append_same (x ∷ a) [] b b' h e = absurd (omega arith)
-append_same (x ∷ a) (y ∷ a') b b' h e =
-    let tail : a ++ b ≡ a' ++ b' = cc in
-    let (p, q) = append_same a a' b b' (omega arith) tail in
-    (cc, q)
-
--- a slice's bytes are as many as its count says
-pub slice_len_same : (xs ys : List ℕ) → length xs ≡ length ys → length (slice xs) ≡ length (slice ys)
-slice_len_same xs ys e =
-    elim (cases_lt (length xs) 32) [
-      | inl few ↦ ap length (slice_few xs few) ∙ e ∙ sym (ap length (slice_few ys (omega arith)))
-      | inr more ↦ elim (cases_lt (length xs) 256) [
-        | inl some ↦ ap length (slice_some xs more some) ∙ little_len 32 (bits xs) ∙ sym (little_len 32 (bits ys)) ∙ sym (ap length (slice_some ys (omega arith) (omega arith)))
-        | inr many ↦ ap length (slice_many xs many) ∙ sym (ap length (slice_many ys (omega arith)))
-      ]
-    ]
-
-abbrev highs : List (ℕ × List ℕ) → List ℕ
-highs ps = map (λ part. part.0) ps
-
-abbrev counts : List (ℕ × List ℕ) → List ℕ
-counts ps = map (λ part. length part.1 - 1) ps
-
-abbrev slices : List (ℕ × List ℕ) → List ℕ
-slices ps = flat_map (λ part. slice part.1) ps
-
-highs_rise : (base low high : ℕ) (ps : List (ℕ × List ℕ)) → AreParts base low high ps → IsRising low high (highs ps)
-highs_rise base low high [] h = h
-highs_rise base low high (part ∷ ps) (a, some, r, later) = (a, highs_rise base (part.0 + 1) high ps later)
-
-same_parts : (low low' high : ℕ) (ps qs : List (ℕ × List ℕ)) → AreParts 256 low high ps → AreParts 256 low' high qs
-    → highs ps ≡ highs qs → counts ps ≡ counts qs → slices ps ≡ slices qs → ps ≡ qs
-same_parts low low' high [] [] h k e f g = refl
-same_parts low low' high [] (q ∷ qs) h k e f g = cc
-same_parts low low' high (p ∷ ps) [] h k e f g = cc
-same_parts low low' high (p ∷ ps) (q ∷ qs) (a, some, r, later) (a', some', r', later') e f g =
-    let e0 : p.0 ≡ q.0 = cc in
-    let e' : highs ps ≡ highs qs = cc in
-    let f0 : length p.1 - 1 ≡ length q.1 - 1 = cc in
-    let f' : counts ps ≡ counts qs = cc in
-    let size : length p.1 ≡ length q.1 = omega arith in
-    let (g0, g') = append_same (slice p.1) (slice q.1) (slices ps) (slices qs) (slice_len_same p.1 q.1 size) g in
-    let low_same : p.1 ≡ q.1 = one_slice p.1 q.1 r r' size g0 in
-    let rest : ps ≡ qs = same_parts (p.0 + 1) (q.0 + 1) high ps qs later later' e' f' g' in
-    let whole : p ≡ q = ap (λ (n : ℕ). (n, p.1)) e0 ∙ ap (λ (l : List ℕ). (q.0, l)) low_same in
-    cc
-
-blocks_one : (ps qs : List (ℕ × List ℕ)) → AreParts 256 0 256 ps → AreParts 256 0 256 qs → 0 < length ps → 0 < length qs
-    → blocks_of ps ≡ blocks_of qs → ps ≡ qs
-unfolding blocks_of
-blocks_one ps qs h k some some' e =
-    let head : length ps - 1 ≡ length qs - 1 = cc in
-    let tail : (slice (highs ps) ++ counts ps) ++ slices ps ≡ (slice (highs qs) ++ counts qs) ++ slices qs = cc in
-    let many : length ps ≡ length qs = omega arith in
-    let high_len : length (highs ps) ≡ length (highs qs) = length-map ps (λ part. part.0) ∙ many ∙ sym (length-map qs (λ part. part.0)) in
-    let count_len : length (counts ps) ≡ length (counts qs) = length-map ps (λ part. length part.1 - 1) ∙ many ∙ sym (length-map qs (λ part. length part.1 - 1)) in
-    let slice_len : length (slice (highs ps)) ≡ length (slice (highs qs)) = slice_len_same (highs ps) (highs qs) high_len in
-    let front : length (slice (highs ps) ++ counts ps) ≡ length (slice (highs qs) ++ counts qs) =
-    omega (arith, length-append (slice (highs ps)) (counts ps), length-append (slice (highs qs)) (counts qs)) in
-    let (s, f) = append_same (slice (highs ps) ++ counts ps) (slice (highs qs) ++ counts qs) (slices ps) (slices qs) front tail in
-    let (s0, g) = append_same (slice (highs ps)) (slice (highs qs)) (counts ps) (counts qs) slice_len s in
-    let high_same : highs ps ≡ highs qs = one_slice (highs ps) (highs qs) (highs_rise 256 0 256 ps h) (highs_rise 256 0 256 qs k) high_len s0 in
-    same_parts 0 0 256 ps qs h k high_same g f
-
-no_numbers : (y : ℕ) (ys : List ℕ) → numbers [] ≡ numbers (y ∷ ys) → ⊥
-unfolding numbers le_bytes
-no_numbers y ys e = cc
 
 pub numbers_len : (xs : List ℕ) → length (numbers xs) ≡ 2 * length xs
 unfolding numbers le_bytes
 numbers_len [] = refl
 numbers_len (x ∷ xs) = let r : length (numbers xs) ≡ 2 * length xs = numbers_len xs in omega arith
 
-numbers_one : (low low' : ℕ) (xs ys : List ℕ) → IsRising low 65536 xs → IsRising low' 65536 ys → numbers xs ≡ numbers ys → xs ≡ ys
-unfolding numbers
-numbers_one low low' [] [] h k e = refl
-numbers_one low low' [] (y ∷ ys) h k e = absurd (no_numbers y ys e)
-numbers_one low low' (x ∷ xs) [] h k e = absurd (no_numbers x xs (sym e))
-numbers_one low low' (x ∷ xs) (y ∷ ys) (a, r) (a', r') e =
-    let (e0, e') = append_same (le_bytes 2 x) (le_bytes 2 y) (numbers xs) (numbers ys) (little_len 2 x ∙ sym (little_len 2 y)) e in
-    let room : (x + 1) + length xs ≤ 65536 = rising_room (x + 1) 65536 xs r in
-    let room' : (y + 1) + length ys ≤ 65536 = rising_room (y + 1) 65536 ys r' in
-    let same : x ≡ y = one_le_bytes 2 x y (omega arith) (omega arith) e0 in
-    let rest : xs ≡ ys = numbers_one (x + 1) (y + 1) xs ys r r' e' in
-    cc
+-- ---- the forms
 
-pub body_blocks : (xs : List ℕ) → length (blocks xs) < 2 * length xs → body xs ≡ blocks xs
+-- numbers with few boundaries
+abbrev pub few : List ℕ → Bool
+few xs = are_few (length (boundaries xs)) (length xs)
+
+pub body_runs : (xs : List ℕ) → few xs ≡ true → body xs ≡ runs (boundaries xs)
 unfolding body
-body_blocks xs h = sym (cond_below (length (blocks xs)) (2 * length xs) _ _ h)
+body_runs xs e = ap (λ (b : Bool). cond b (runs (boundaries xs)) (cond (ltb (length (blocks xs)) (2 * length xs)) (blocks xs) (numbers xs))) e
 
-pub body_numbers : (xs : List ℕ) → 2 * length xs ≤ length (blocks xs) → body xs ≡ numbers xs
+pub body_blocks : (xs : List ℕ) → few xs ≡ false → length (blocks xs) < 2 * length xs → body xs ≡ blocks xs
 unfolding body
-body_numbers xs h = sym (cond_above (length (blocks xs)) (2 * length xs) _ _ _ h refl)
+body_blocks xs e h =
+    ap (λ (b : Bool). cond b (runs (boundaries xs)) (cond (ltb (length (blocks xs)) (2 * length xs)) (blocks xs) (numbers xs))) e
+    ∙ sym (cond_below (length (blocks xs)) (2 * length xs) _ _ h)
 
-some_parts : (xs : List ℕ) (ps : List (ℕ × List ℕ)) → join 256 ps ≡ xs → 0 < length xs → 0 < length ps
-some_parts xs [] e some = let none = ap length e in absurd (omega arith)
-some_parts xs (p ∷ ps) e some = omega arith
+pub body_numbers : (xs : List ℕ) → few xs ≡ false → 2 * length xs ≤ length (blocks xs) → body xs ≡ numbers xs
+unfolding body
+body_numbers xs e h =
+    ap (λ (b : Bool). cond b (runs (boundaries xs)) (cond (ltb (length (blocks xs)) (2 * length xs)) (blocks xs) (numbers xs))) e
+    ∙ sym (cond_above (length (blocks xs)) (2 * length xs) _ _ _ h refl)
 
-both_blocks : (xs ys : List ℕ) → IsRising 0 65536 xs → IsRising 0 65536 ys → 0 < length xs → 0 < length ys → blocks xs ≡ blocks ys → xs ≡ ys
-both_blocks xs ys h k some some' e =
-    let zero' : 0 * 256 ≤ 0 = omega arith in
-    let are : AreParts 256 0 256 (parts 256 xs) = parts_are 256 0 256 0 xs (lit< tt) zero' h in
-    let are' : AreParts 256 0 256 (parts 256 ys) = parts_are 256 0 256 0 ys (lit< tt) zero' k in
-    let same : parts 256 xs ≡ parts 256 ys = blocks_one (parts 256 xs) (parts 256 ys) are are'
-    (some_parts xs (parts 256 xs) (join_parts 256 xs) some) (some_parts ys (parts 256 ys) (join_parts 256 ys) some') e in
-    sym (join_parts 256 xs) ∙ ap (join 256) same ∙ join_parts 256 ys
+pub cases_few : (xs : List ℕ) → (few xs ≡ true) ⊎ (few xs ≡ false)
+cases_few xs = cases_of (few xs)
+  where
+    cases_of : (b : Bool) → (b ≡ true) ⊎ (b ≡ false)
+    cases_of true = inl refl
+    cases_of false = inr refl
 
-mixed : (xs ys : List ℕ) → length xs ≡ length ys → length (blocks xs) < 2 * length xs → 2 * length ys ≤ length (blocks ys) → body xs ≡ body ys → ⊥
-mixed xs ys size less more e =
-    let a = ap length (sym (body_blocks xs less) ∙ e ∙ body_numbers ys more) in
-    let b : length (numbers ys) ≡ 2 * length ys = numbers_len ys in
-    omega arith
+-- runs of some numbers are short
+pub runs_short : (xs : List ℕ) → 0 < length xs → few xs ≡ true → (0 < length (boundaries xs)) × (length (runs (boundaries xs)) < 2 * length xs)
+runs_short xs some e =
+    let (most, least) = few_small (length (boundaries xs)) (length xs) e in
+    let bounds = some_bounds xs some in
+    let size = runs_len (boundaries xs) in
+    (bounds, omega arith)
+
+-- ---- a body is read as its numbers
+
+-- the numbers by whether the size is two bytes for each, and by whether the body begins as runs do
+abbrev pub by_head : Bool → List ℕ → List ℕ
+by_head begun bytes = cond begun (runs_from 0 (drop 2 bytes)) (block_numbers bytes)
+
+abbrev pub by_size : Bool → List ℕ → List ℕ
+by_size same bytes = cond same (pairs_of bytes) (by_head (begins_runs bytes) bytes)
+
+pub body_back : (xs : List ℕ) → IsRising 0 65536 xs → 0 < length xs → body_numbers_of (length xs) (body xs) ≡ xs
+body_back xs r some = elim (cases_few xs) [
+  | inl e ↦ (
+      let (bounds, short) = runs_short xs some e in
+      ap (body_numbers_of (length xs)) (body_runs xs e)
+      ∙ ap (λ (b : Bool). by_size b (runs (boundaries xs))) (ne_eqb (length (runs (boundaries xs))) (2 * length xs) (λ f. absurd (omega arith)))
+      ∙ ap (λ (b : Bool). by_head b (runs (boundaries xs))) (runs_begun (boundaries xs))
+      ∙ ap run_numbers (runs_read (boundaries xs) (bounds_rise xs r)) ∙ runs_back xs r)
+  | inr e ↦ elim (cases_lt (length (blocks xs)) (2 * length xs)) [
+    | inl less ↦
+        ap (body_numbers_of (length xs)) (body_blocks xs e less)
+        ∙ ap (λ (b : Bool). by_size b (blocks xs)) (ne_eqb (length (blocks xs)) (2 * length xs) (λ f. absurd (omega arith)))
+        ∙ ap (λ (b : Bool). by_head b (blocks xs)) (blocks_begin (length xs) (blocks xs) (blocks_are_blocks xs r some))
+        ∙ blocks_back xs r some
+    | inr more ↦
+        ap (body_numbers_of (length xs)) (body_numbers xs e more)
+        ∙ ap (λ (b : Bool). by_size b (numbers xs)) (eq-eqb (length (numbers xs)) (2 * length xs) (numbers_len xs))
+        ∙ numbers_back 0 xs r
+  ]
+]
+
+none_both : (xs ys : List ℕ) → length xs ≡ length ys → length xs ≡ 0 → xs ≡ ys
+none_both [] [] e h = refl
+none_both [] (y ∷ ys) e h = absurd (omega arith)
+none_both (x ∷ xs) ys e h = absurd (omega arith)
 
 pub one_body : OneBody
-one_body xs ys h k size e =
-    elim (cases_lt (length (blocks xs)) (2 * length xs)) [
-      | inl less ↦ elim (cases_lt (length (blocks ys)) (2 * length ys)) [
-        | inl less' ↦ both_blocks xs ys h k (omega arith) (omega arith) (sym (body_blocks xs less) ∙ e ∙ body_blocks ys less')
-        | inr more' ↦ absurd (mixed xs ys size less more' e)
-      ]
-      | inr more ↦ elim (cases_lt (length (blocks ys)) (2 * length ys)) [
-        | inl less' ↦ absurd (mixed ys xs (sym size) less' more (sym e))
-        | inr more' ↦ numbers_one 0 0 xs ys h k (sym (body_numbers xs more) ∙ e ∙ body_numbers ys more')
-      ]
-    ]
+one_body xs ys h k size e = elim (cases_lt 0 (length xs)) [
+  | inl some ↦
+      sym (body_back xs h some) ∙ ap (body_numbers_of (length xs)) e ∙ ap (λ (n : ℕ). body_numbers_of n (body ys)) size ∙ body_back ys k (omega arith)
+  | inr none ↦ none_both xs ys size (omega arith)
+]

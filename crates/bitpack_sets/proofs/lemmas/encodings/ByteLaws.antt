@@ -3,10 +3,11 @@ use Rattle.std.proofs.Common.{ℕ, zero, suc, ◌+◌, ◌-◌, ◌*◌, ◌/◌
 use Rattle.std.specs.List.{concat, flat_map}
 use Rattle.std.proofs.lemmas.Bool.{cases_lt}
 use Rattle.std.proofs.lemmas.List.{length-map}
-use Rattle.bitpack_sets.proofs.lemmas.encodings.BodyLaws.{body_blocks, body_numbers}
+use Rattle.bitpack_sets.proofs.lemmas.encodings.BodyLaws.{body_blocks, body_numbers, body_runs, cases_few}
 use Rattle.bitpack_slices.proofs.ForCallers.{AreParts, EachByte, rising_room, slice_few, slice_many, slice_some}
-use Rattle.bitpack_sets.proofs.lemmas.reads.JoinLaws.{parts_are}
+use Rattle.bitpack_slices.proofs.ForCallers.{parts_are}
 use Rattle.bitpack_slices.specs.Bodies.{IsRising, bits, blocks, blocks_of, le_bytes, numbers, parts, slice}
+use Rattle.bitpack_slices.specs.Runs.{boundaries, runs}
 use Rattle.bitpack_sets.specs.Sets.{body}
 
 pub each_append : (xs ys : List ℕ) → EachByte xs → EachByte ys → EachByte (xs ++ ys)
@@ -62,10 +63,17 @@ each_number : (xs : List ℕ) → EachByte (numbers xs)
 unfolding numbers
 each_number xs = each_flat 2 xs
 
+each_runs : (bounds : List ℕ) → EachByte (runs bounds)
+unfolding runs
+each_runs bounds = (omega arith, (omega arith, each_flat 2 bounds))
+
 pub each_body : (xs : List ℕ) → IsRising 0 65536 xs → EachByte (body xs)
-each_body xs r = elim (cases_lt (length (blocks xs)) (2 * length xs)) [
-  | inl less ↦ subst EachByte (sym (body_blocks xs less)) (each_blocks (parts 256 xs) (parts_are 256 0 256 0 xs (omega arith) (omega arith) r))
-  | inr more ↦ subst EachByte (sym (body_numbers xs more)) (each_number xs)
+each_body xs r = elim (cases_few xs) [
+  | inl fits ↦ subst EachByte (sym (body_runs xs fits)) (each_runs (boundaries xs))
+  | inr other ↦ elim (cases_lt (length (blocks xs)) (2 * length xs)) [
+    | inl less ↦ subst EachByte (sym (body_blocks xs other less)) (each_blocks (parts 256 xs) (parts_are 256 0 256 0 xs (omega arith) (omega arith) r))
+    | inr more ↦ subst EachByte (sym (body_numbers xs other more)) (each_number xs)
+  ]
 ]
 
 pub each_bodies : (low : ℕ) (ps : List (ℕ × List ℕ)) → AreParts 65536 low 65536 ps → EachByte (concat (map (λ part. body part.1) ps))

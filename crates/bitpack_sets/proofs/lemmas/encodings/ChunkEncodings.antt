@@ -5,18 +5,19 @@ use Rattle.std.proofs.lemmas.Bool.{cases_lt, cond_above, cond_below, le-ltb}
 use Rattle.std.proofs.lemmas.List.{drop-drop, drop_at, length-map, take_at}
 use Rattle.bitpack_groups.proofs.ForCallers.{count_fits}
 use Rattle.bitpack_sets.proofs.lemmas.faults.BodyFaults.{body_sound}
-use Rattle.bitpack_sets.proofs.lemmas.encodings.BodyLaws.{body_blocks, body_numbers, numbers_len}
+use Rattle.bitpack_sets.proofs.lemmas.encodings.BodyLaws.{body_blocks, body_numbers, body_runs, cases_few, numbers_len}
 use Rattle.bitpack_sets.proofs.lemmas.encodings.ByteLaws.{each_body}
 use Rattle.bitpack_sets.proofs.lemmas.faults.EntryLaws.{none_entry, none_first, none_loose, none_sizes}
 use Rattle.bitpack_sets.proofs.lemmas.faults.FaultLaws.{none_or, some_not}
-use Rattle.bitpack_slices.proofs.ForCallers.{AreParts, EachByte, counts, flat_len, keys, rising_room, total}
-use Rattle.bitpack_sets.proofs.lemmas.encodings.LongLaws.{after_counts, bodies, body_len, concat_len, counts_len, ends, ends_below, ends_len, keys_below, small, sums_below}
+use Rattle.bitpack_slices.proofs.ForCallers.{AreParts, EachByte, counts, flat_len, keys, rising_room, runs_len, total}
+use Rattle.bitpack_sets.proofs.lemmas.encodings.LongLaws.{after_counts, bodies, body_len, concat_len, counts_len, ends, ends_below, ends_len, keys_below, small, some_each, sums_below}
 use Rattle.bitpack_sets.proofs.lemmas.encodings.LongLaws as encodings
 use Rattle.bitpack_sets.proofs.lemmas.encodings.ShortLaws.{short_written}
-use Rattle.bitpack_sets.proofs.lemmas.faults.TestLaws.{blocks_are_blocks}
+use Rattle.bitpack_slices.proofs.ForCallers.{blocks_are_blocks}
 use Rattle.bitpack_sets.specs.Directory.{before, bodies_end, bodies_start, body_at, count_at, end_at, end_size, key_at, size_at, sum_at, sum_size}
 use Rattle.bitpack_sets.specs.Faults.{body_fault_at, chunks_fault, entry_fault}
 use Rattle.bitpack_slices.specs.Bodies.{IsRising, blocks, le_bytes}
+use Rattle.bitpack_slices.specs.Runs.{boundaries}
 use Rattle.bitpack_sets.specs.Sets.{body, sums}
 use Rattle.bitpack_sets.specs.Sound.{IsEntry}
 use Rattle.bitpack_sets.specs.Varints.{byte_count, short_at}
@@ -177,7 +178,7 @@ module _ (n : ℕ) (ps : List (ℕ × List ℕ)) (are : AreParts 65536 0 65536 p
       let within : m < length (ends ps) = omega arith in
       let here : m < length sizes = omega (arith, length-map (bodies ps) length, length-map ps (λ (part : ℕ × List ℕ). body part.1)) in
       ap (λ (z : ℕ). short_at z (drop (1 + 2 * chunks) rest) m) ends_are ∙ ap (λ (l : List ℕ). short_at (encodings.end_size ps) l m) after_keys
-      ∙ short_written (encodings.end_size ps) m (ends ps) (S ++ B) (ends_below n ps few all) within ∙ sum_get 0 sizes m here ∙ zero_add (total (take (suc m) sizes))
+      ∙ short_written (encodings.end_size ps) m (ends ps) (S ++ B) (ends_below n ps (some_each 65536 0 65536 ps are) few all) within ∙ sum_get 0 sizes m here ∙ zero_add (total (take (suc m) sizes))
     where
       zero_add : (x : ℕ) → 0 + x ≡ x
       zero_add x = omega arith
@@ -223,9 +224,12 @@ module _ (n : ℕ) (ps : List (ℕ × List ℕ)) (are : AreParts 65536 0 65536 p
       omega arith
 
   body_some : (xs : List ℕ) → IsRising 0 65536 xs → 0 < length xs → 0 < length (body xs)
-  body_some xs r h = elim (cases_lt (length (blocks xs)) (2 * length xs)) [
-    | inl less ↦ (let e = ap length (body_blocks xs less) in let f = (blocks_are_blocks xs r h).some in omega arith)
-    | inr more ↦ (let e = ap length (body_numbers xs more) in let f = numbers_len xs in omega arith)
+  body_some xs r h = elim (cases_few xs) [
+    | inl fits ↦ (let e = ap length (body_runs xs fits) in let f = runs_len (boundaries xs) in omega arith)
+    | inr other ↦ elim (cases_lt (length (blocks xs)) (2 * length xs)) [
+      | inl less ↦ (let e = ap length (body_blocks xs other less) in let f = (blocks_are_blocks xs r h).some in omega arith)
+      | inr more ↦ (let e = ap length (body_numbers xs other more) in let f = numbers_len xs in omega arith)
+    ]
   ]
 
   key_after : (m : ℕ) → m < chunks → 0 < m → before (key_at rest) m < key_at rest m
@@ -239,7 +243,7 @@ module _ (n : ℕ) (ps : List (ℕ × List ℕ)) (are : AreParts 65536 0 65536 p
       let size = size_read m lt in
       let room = rising_room 0 65536 (get_or ps m none).1 rises in
       let body_many = body_some (get_or ps m none).1 rises part_some in
-      let body_few = body_len (get_or ps m none).1 in
+      let body_few = body_len (get_or ps m none).1 part_some in
       record {
         key = key_after m lt;
         some = omega arith;

@@ -18,7 +18,7 @@ use Rattle.bitpack_sets.proofs.lemmas.written.FrontLaws.{short_first}
 use Rattle.bitpack_sets.proofs.lemmas.faults.GapLaws.{below_words, gaps_below, gaps_len, ids_back, later_bytes, later_encoding, no_bytes, none_short, short_is, short_none}
 use Rattle.bitpack_sets.proofs.lemmas.encodings.LongLaws.{after_counts, bodies, count_room, ends, heads, join_len, long_array, long_chunks, long_parts, numbers_part, one_long, small}
 use Rattle.bitpack_sets.proofs.lemmas.encodings.LongLaws as encodings
-use Rattle.bitpack_sets.proofs.lemmas.reads.JoinLaws.{join_parts, parts_are}
+use Rattle.bitpack_slices.proofs.ForCallers.{join_parts, parts_are}
 use Rattle.bitpack_sets.proofs.lemmas.words.Words.{IsArray}
 use Rattle.bitpack_sets.specs.Directory.{chunk_ids}
 use Rattle.bitpack_sets.specs.Faults.{array_fault, chunk_count_fault, chunks_fault, fault, ids_from, in_chunks_fault, short_fault, short_ids}

@@ -1,15 +1,15 @@
 -- An encoding of chunks determines its ids.
-use Rattle.std.proofs.Common.{◌≡◌, ℕ, suc, ◌+◌, ◌*◌, ◌^◌, ◌<◌, ◌≤◌, List, [], ◌∷◌, ◌++◌, map, length, refl, sym, ap, ◌∙◌, arith, lit<, inl, inr, subst, length-append, append_assoc}
+use Rattle.std.proofs.Common.{◌≡◌, ℕ, suc, ◌+◌, ◌*◌, ◌^◌, ◌<◌, ◌≤◌, List, [], ◌∷◌, ◌++◌, map, length, refl, sym, ap, ◌∙◌, arith, lit<, inl, inr, subst, length-append, append_assoc, Bool, true, false, cond, eqb, ◌/◌, ◌%◌}
 use Rattle.std.specs.List.{concat, flat_map}
 use Rattle.std.proofs.lemmas.Bool.{cases_lt, cond_above, cond_below}
 use Rattle.std.proofs.lemmas.List.{append_cancel_left, length-map}
 use Rattle.bitpack_groups.proofs.ForCallers.{count_fits, little_len}
 use Rattle.bitpack_slices.proofs.ForCallers.{AreParts, Below, counts, flat_len, join, keys, rising_room, total}
-use Rattle.bitpack_sets.proofs.lemmas.reads.JoinLaws.{join_parts, parts_are}
-use Rattle.bitpack_sets.proofs.lemmas.encodings.SliceLaws.{one_le_bytes}
-use Rattle.bitpack_sets.proofs.lemmas.encodings.BodyLaws.{append_same, body_blocks, body_numbers, numbers_len, one_body}
+use Rattle.bitpack_slices.proofs.ForCallers.{join_parts, parts_are}
+use Rattle.bitpack_slices.proofs.ForCallers.{append_same, one_le_bytes}
+use Rattle.bitpack_sets.proofs.lemmas.encodings.BodyLaws.{body_blocks, body_numbers, body_runs, cases_few, numbers_len, runs_short, one_body}
 use Rattle.bitpack_sets.proofs.lemmas.words.Words.{NumbersPart, OneLong}
-use Rattle.bitpack_slices.specs.Bodies.{IsRising, blocks, le_bytes, parts}
+use Rattle.bitpack_slices.specs.Bodies.{IsRising, blocks, le_bytes, parts, with_number}
 use Rattle.bitpack_sets.specs.Sets.{array, body, in_chunks, long, sums}
 use Rattle.bitpack_sets.specs.Varints.{NumberReadsBack, byte_count, number, number_value}
 
@@ -89,15 +89,45 @@ pub keys_below : (low : ℕ) (ps : List (ℕ × List ℕ)) → AreParts 65536 lo
 keys_below low [] h = tt
 keys_below low (p ∷ ps) (a, some, r, later) = let t : p.0 + 1 ≤ 65536 = key_top (p.0 + 1) ps later in (omega arith, keys_below (p.0 + 1) ps later)
 
-pub body_len : (xs : List ℕ) → length (body xs) ≤ 2 * length xs
-body_len xs = elim (cases_lt (length (blocks xs)) (2 * length xs)) [
-  | inl less ↦ (let e = ap length (body_blocks xs less) in omega arith)
-  | inr more ↦ (let e = ap length (body_numbers xs more) in let f = numbers_len xs in omega arith)
+pub body_len : (xs : List ℕ) → 0 < length xs → length (body xs) ≤ 2 * length xs
+body_len xs some = elim (cases_few xs) [
+  | inl fits ↦ (let (bounds, short) = runs_short xs some fits in let e = ap length (body_runs xs fits) in omega arith)
+  | inr other ↦ elim (cases_lt (length (blocks xs)) (2 * length xs)) [
+    | inl less ↦ (let e = ap length (body_blocks xs other less) in omega arith)
+    | inr more ↦ (let e = ap length (body_numbers xs other more) in let f = numbers_len xs in omega arith)
+  ]
 ]
 
-pub bodies_len : (ps : List (ℕ × List ℕ)) → total (map length (bodies ps)) ≤ 2 * total (counts ps)
-bodies_len [] = omega arith
-bodies_len (p ∷ ps) = let a = body_len p.1 in let b : total (map length (bodies ps)) ≤ 2 * total (counts ps) = bodies_len ps in omega arith
+-- each part has some numbers
+abbrev pub EachSome : List (ℕ × List ℕ) → Type 0
+EachSome [] = Unit {0}
+EachSome (p ∷ ps) = (0 < length p.1) × EachSome ps
+
+pub some_each : (base low high : ℕ) (ps : List (ℕ × List ℕ)) → AreParts base low high ps → EachSome ps
+some_each base low high [] are = tt
+some_each base low high (p ∷ ps) (a, some, r, later) = (some, some_each base (p.0 + 1) high ps later)
+
+each_case : (b : Bool) (base x : ℕ) (p : ℕ × List ℕ) (ps : List (ℕ × List ℕ)) → 0 < length p.1 → EachSome ps
+    → EachSome (cond b ((p.0, x % base ∷ p.1) ∷ ps) ((x / base, x % base ∷ []) ∷ p ∷ ps))
+each_case true base x p ps some each = (omega arith, each)
+each_case false base x p ps some each = (omega arith, (some, each))
+
+each_more : (base x : ℕ) (ps : List (ℕ × List ℕ)) → EachSome ps → EachSome (with_number base x ps)
+unfolding with_number
+each_more base x [] each = (omega arith, tt)
+each_more base x (p ∷ ps) (some, each) = each_case (eqb p.0 (x / base)) base x p ps some each
+
+pub each_part : (base : ℕ) (xs : List ℕ) → EachSome (parts base xs)
+unfolding parts
+each_part base [] = tt
+each_part base (x ∷ xs) = each_more base x (parts base xs) (each_part base xs)
+
+pub bodies_len : (ps : List (ℕ × List ℕ)) → EachSome ps → total (map length (bodies ps)) ≤ 2 * total (counts ps)
+bodies_len [] each = omega arith
+bodies_len (p ∷ ps) (some, each) =
+    let own = body_len p.1 some in
+    let rest : total (map length (bodies ps)) ≤ 2 * total (counts ps) = bodies_len ps each in
+    omega arith
 
 pub join_len : (ps : List (ℕ × List ℕ)) → length (join 65536 ps) ≡ total (counts ps)
 join_len [] = refl
@@ -148,10 +178,10 @@ ends_len ps = sums_len 0 (map length (bodies ps)) ∙ length-map (bodies ps) len
 pub counts_len : (ps : List (ℕ × List ℕ)) → length (sums 0 (counts ps)) ≡ length ps
 counts_len ps = sums_len 0 (counts ps) ∙ length-map ps (λ part. length part.1)
 
-pub ends_below : (n : ℕ) (ps : List (ℕ × List ℕ)) → n ≤ 2 ^ 28 → total (counts ps) ≡ n → Below (256 ^ end_size ps) (ends ps)
-ends_below n ps few e =
+pub ends_below : (n : ℕ) (ps : List (ℕ × List ℕ)) → EachSome ps → n ≤ 2 ^ 28 → total (counts ps) ≡ n → Below (256 ^ end_size ps) (ends ps)
+ends_below n ps each few e =
     let a = concat_len (bodies ps) in
-    let b = bodies_len ps in
+    let b = bodies_len ps each in
     let fits : length (concat (bodies ps)) < 256 ^ end_size ps = count_fits (length (concat (bodies ps))) (omega arith) in
     sums_below 0 (256 ^ end_size ps) (map length (bodies ps)) (omega arith)
 
@@ -184,8 +214,8 @@ after_one n ps qs h k many few e f same =
     (flat_len (byte_count n) (sums 0 (counts ps)) ∙ ap (λ (m : ℕ). byte_count n * m) sum_len ∙ sym (flat_len (byte_count n) (sums 0 (counts qs)))) later2 in
     let keys_are : keys ps ≡ keys qs = flat_one 2 (keys ps) (keys qs) (keys_below 0 ps h) (keys_below 0 qs k) key_len key_same in
     let moved : flat_map (le_bytes (end_size qs)) (ends qs) ≡ flat_map (le_bytes (end_size ps)) (ends qs) = ap (λ (m : ℕ). flat_map (le_bytes m) (ends qs)) (sym size) in
-    let ends_are : ends ps ≡ ends qs = flat_one (end_size ps) (ends ps) (ends qs) (ends_below n ps few e)
-    (subst (λ (m : ℕ). Below (256 ^ m) (ends qs)) (sym size) (ends_below n qs few f)) end_len (end_same ∙ moved) in
+    let ends_are : ends ps ≡ ends qs = flat_one (end_size ps) (ends ps) (ends qs) (ends_below n ps (some_each 65536 0 65536 ps h) few e)
+    (subst (λ (m : ℕ). Below (256 ^ m) (ends qs)) (sym size) (ends_below n qs (some_each 65536 0 65536 qs k) few f)) end_len (end_same ∙ moved) in
     let fits : n < 256 ^ byte_count n = count_fits n (small n few) in
     let sums_are : sums 0 (counts ps) ≡ sums 0 (counts qs) = flat_one (byte_count n) (sums 0 (counts ps)) (sums 0 (counts qs))
     (sums_below 0 (256 ^ byte_count n) (counts ps) (omega arith)) (sums_below 0 (256 ^ byte_count n) (counts qs) (omega arith)) sum_len sum_same in

@@ -7,9 +7,9 @@ use Rattle.bitpack_sets.proofs.lemmas.encodings.EncodeLaws.{array_is, chunks_is,
 use Rattle.bitpack_sets.proofs.lemmas.encodings.FewLaws.{codes_len, codes_of, codes_run, few_size, groups_encoding, no_ids}
 use Rattle.bitpack_sets.proofs.lemmas.faults.GapLaws.{below_words, gaps_below}
 use Rattle.bitpack_sets.proofs.lemmas.written.LongFilled.{array_size, chunks_length, few_times}
-use Rattle.bitpack_sets.proofs.lemmas.encodings.LongLaws.{bodies_len, concat_len, count_room, join_len}
+use Rattle.bitpack_sets.proofs.lemmas.encodings.LongLaws.{bodies_len, concat_len, each_part, count_room, join_len}
 use Rattle.bitpack_slices.proofs.ForCallers.{AreParts}
-use Rattle.bitpack_sets.proofs.lemmas.reads.JoinLaws.{join_parts, parts_are}
+use Rattle.bitpack_slices.proofs.ForCallers.{join_parts, parts_are}
 use Rattle.bitpack_sets.specs.Laws.{LongestEncoding}
 use Rattle.bitpack_slices.specs.Bodies.{parts}
 use Rattle.bitpack_sets.specs.Sets.{IsSet, encoding, short}
@@ -59,7 +59,7 @@ pub bodies_few : (ids : List ℕ) → length (concat (bodies ids)) ≤ 2 * lengt
 bodies_few ids =
     let ps : List (ℕ × List ℕ) = parts 65536 ids in
     let a = concat_len (bodies ids) in
-    let b = bodies_len ps in
+    let b = bodies_len ps (each_part 65536 ids) in
     let d = join_len ps in
     let e = ap length (join_parts 65536 ids) in
     omega arith

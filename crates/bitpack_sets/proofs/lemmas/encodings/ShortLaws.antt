@@ -5,7 +5,7 @@ use Rattle.std.proofs.lemmas.List.{drop-drop, drop_at, get_or-drop, take_at, len
 use Rattle.bitpack_groups.proofs.ForCallers.{little_len}
 use Rattle.bitpacking.specs.Words.{joined}
 use Rattle.bitpack_slices.proofs.ForCallers.{Below, EachByte, bytes_dropped, bytes_taken, number_little, ring, total}
-use Rattle.bitpack_sets.proofs.lemmas.encodings.SliceLaws.{little_number}
+use Rattle.bitpack_slices.proofs.ForCallers.{little_number}
 use Rattle.bitpack_sets.specs.Directory.{before}
 use Rattle.bitpack_slices.specs.Bodies.{le_bytes}
 use Rattle.bitpack_sets.specs.Sets.{sums}

@@ -5,7 +5,7 @@ use Rattle.std.proofs.lemmas.List.{drop-drop, drop_more, take_all}
 use Rattle.std.proofs.lemmas.List.FromFn.{length-map-range_with_len}
 use Rattle.bitpack_slices.proofs.ForCallers.{AreParts, EachByte, bytes_dropped, counts, keys, number_bits, total}
 use Rattle.bitpack_sets.proofs.lemmas.faults.EntryLaws.{body_len, ends_grow, sums_grow}
-use Rattle.bitpack_sets.proofs.lemmas.reads.JoinLaws.{join_rises, parts_join}
+use Rattle.bitpack_slices.proofs.ForCallers.{join_rises, parts_join}
 use Rattle.bitpack_sets.proofs.lemmas.encodings.LongLaws.{after_counts, bodies, ends, join_len, long_parts}
 use Rattle.bitpack_sets.proofs.lemmas.encodings.LongLaws as encodings
 use Rattle.bitpack_sets.proofs.lemmas.encodings.ShortLaws.{Grows, before_next, map_map, map_same, short_is, shorts_back, step_of, steps_summed, steps_taken, steps_total}

@@ -1,57 +1,100 @@
 -- The chunks of a set as they are read, one after the other.
-use Rattle.std.proofs.Common.{◌≡◌, ℕ, zero, suc, ◌+◌, ◌-◌, ◌*◌, ◌/◌, ◌<◌, ◌≤◌, Bool, true, false, get_or, ◌%◌, List, ◌++◌, map, take, drop, length, cond, refl, sym, ap, ◌∙◌, arith, subst, eq-eqb, append_assoc, inl, inr}
+use Rattle.std.proofs.Common.{◌≡◌, ℕ, zero, suc, ◌+◌, ◌-◌, ◌*◌, ◌/◌, ◌<◌, ◌≤◌, Bool, true, false, get_or, ◌%◌, List, ◌++◌, map, take, drop, length, refl, sym, ap, ◌∙◌, arith, subst, eq-eqb, append_assoc, inl, inr}
 use Rattle.std.specs.List.{range_with_len}
-use Rattle.std.proofs.lemmas.Bool.{cases_lt, ne_eqb}
+use Rattle.std.proofs.lemmas.Bool.{cases_lt, ne_eqb, true≢false}
 use Rattle.std.proofs.lemmas.List.{append-nil}
 use Rattle.std.proofs.lemmas.List.FromFn.{get_or-map-range_with_len, take-map-range_with_len}
-use Rattle.bitpack_sets.proofs.lemmas.encodings.BodyLaws.{body_blocks, body_numbers, numbers_len}
+use Rattle.bitpack_sets.proofs.lemmas.encodings.BodyLaws.{body_blocks, body_numbers, body_runs, by_head, by_size, cases_few, numbers_len}
 use Rattle.bitpack_sets.proofs.lemmas.faults.EntryLaws.{ends_grow, grown_to, sums_grow}
 use Rattle.bitpack_sets.proofs.lemmas.faults.ChunkLaws.{are_parts, counts_in, keys_encoding}
-use Rattle.bitpack_slices.proofs.ForCallers.{EachByte, counts, keys, keys_rise, none, rank_join, rank_join_not, total}
+use Rattle.bitpack_slices.proofs.ForCallers.{EachByte, blocks_begin, bounds_rise, counts, runs_begun, runs_read, keys, keys_rise, none, rank_join, rank_join_not, total}
 use Rattle.bitpack_sets.proofs.lemmas.reads.JoinReads.{has_join, has_join_not}
 use Rattle.bitpack_sets.proofs.lemmas.encodings.ShortLaws.{Grows, before_next, step_of, steps_total}
-use Rattle.bitpack_sets.proofs.lemmas.faults.TestLaws.{blocks_are_blocks}
-use Rattle.bitpack_sets.proofs.lemmas.faults.KnownLaws.{numbers_back}
+use Rattle.bitpack_slices.proofs.ForCallers.{blocks_are_blocks}
+use Rattle.bitpack_slices.proofs.ForCallers.{numbers_back}
 use Rattle.bitpack_sets.specs.Directory.{before, bodies_start, body_at, body_numbers_of, chunk_at, chunk_ids, count_at, end_at, ids_of_chunks, key_at, size_at, sum_at}
 use Rattle.bitpack_slices.specs.Reads.{has, rank}
 use Rattle.bitpack_slices.specs.Bodies.{IsRising, blocks, numbers}
+use Rattle.bitpack_slices.specs.Runs.{begins_runs, boundaries, runs, runs_from}
 use Rattle.bitpack_slices.specs.Slices.{IsBlocks, block_numbers, pairs_of}
 use Rattle.bitpack_sets.specs.Sound.{IsBody, IsRest}
 
 -- ---- a body
 
--- a body of another size than two bytes a number is blocks
-pub blocks_read : (count : ℕ) (bytes : List ℕ) → 0 < count → IsBody count bytes (body_numbers_of count bytes) → (length bytes ≡ 2 * count → ⊥)
-    → IsBlocks (length (block_numbers bytes)) bytes × (length (block_numbers bytes) ≡ count) × (body_numbers_of count bytes ≡ block_numbers bytes)
-blocks_read count bytes some is ne =
-    let xs : List ℕ = body_numbers_of count bytes in
-    let read : xs ≡ block_numbers bytes = ap (λ (b : Bool). cond b (pairs_of bytes) (block_numbers bytes)) (ne_eqb (length bytes) (2 * count) ne) in
-    let size : length xs ≡ count = is.count_is in
-    let encoding : blocks xs ≡ bytes = elim (cases_lt (length (blocks xs)) (2 * length xs)) [
-      | inl less ↦ sym (body_blocks xs less) ∙ is.encoding
-      | inr more ↦ absurd (ne (sym (ap length (sym (body_numbers xs more) ∙ is.encoding)) ∙ numbers_len xs ∙ ap (λ (n : ℕ). 2 * n) size))
-    ] in
-    let here : IsBlocks (length xs) bytes = subst (IsBlocks (length xs)) encoding (blocks_are_blocks xs is.rising (omega arith)) in
-    (subst (λ (l : List ℕ). IsBlocks (length l) bytes) read here, ap length (sym read) ∙ size, read)
-
--- a body as the code tells it from numbers
+-- a body as the code tells it from others
 pub record HasBlocks (count : ℕ) (bytes body : List ℕ) : Type 0 where
   pub are : IsBlocks (length (block_numbers body)) body
   pub size : length (block_numbers body) ≡ count
   pub read : block_numbers body ≡ body_numbers_of count bytes
 
-pub blocks_known : (ids chunks m own : ℕ) (rest body : List ℕ) → IsRest ids chunks rest → m < chunks → own ≡ count_at chunks rest m
-    → body ≡ body_at chunks rest m → (length body ≡ 2 * own → ⊥) → HasBlocks (count_at chunks rest m) (body_at chunks rest m) body
-blocks_known ids chunks m own rest body is lt o e ne =
-    let (are, size, read) = blocks_read (count_at chunks rest m) (body_at chunks rest m) (is.entries m lt).some (is.bodies m lt) (λ h. ne (ap length e ∙ h ∙ ap (λ (n : ℕ). 2 * n) (sym o))) in
-    record {
-      are = subst (λ (l : List ℕ). IsBlocks (length (block_numbers l)) l) (sym e) are;
-      size = ap (λ (l : List ℕ). length (block_numbers l)) e ∙ size;
-      read = ap block_numbers e ∙ sym read;
-    }
+pub record HasRuns (count : ℕ) (bytes body : List ℕ) : Type 0 where
+  pub rising : IsRising 0 65536 (pairs_of (drop 2 body))
+  pub size : length (runs_from 0 (drop 2 body)) ≡ count
+  pub read : runs_from 0 (drop 2 body) ≡ body_numbers_of count bytes
+
+-- a body of another size than two bytes a number that does not begin as runs do is blocks
+pub blocks_read : (count : ℕ) (bytes : List ℕ) → 0 < count → IsBody count bytes (body_numbers_of count bytes) → (length bytes ≡ 2 * count → ⊥) → begins_runs bytes ≡ false
+    → HasBlocks count bytes bytes
+blocks_read count bytes some is ne plain =
+    let xs : List ℕ = body_numbers_of count bytes in
+    let read : xs ≡ block_numbers bytes = ap (λ (b : Bool). by_size b bytes) (ne_eqb (length bytes) (2 * count) ne) ∙ ap (λ (b : Bool). by_head b bytes) plain in
+    let size : length xs ≡ count = is.count_is in
+    let encoding : blocks xs ≡ bytes = elim (cases_few xs) [
+      | inl fits ↦ absurd (true≢false (sym (runs_begun (boundaries xs)) ∙ ap begins_runs (sym (body_runs xs fits) ∙ is.encoding) ∙ plain))
+      | inr other ↦ elim (cases_lt (length (blocks xs)) (2 * length xs)) [
+        | inl less ↦ sym (body_blocks xs other less) ∙ is.encoding
+        | inr more ↦ absurd (ne (sym (ap length (sym (body_numbers xs other more) ∙ is.encoding)) ∙ numbers_len xs ∙ ap (λ (n : ℕ). 2 * n) size))
+      ]
+    ] in
+    let here : IsBlocks (length xs) bytes = subst (IsBlocks (length xs)) encoding (blocks_are_blocks xs is.rising (omega arith)) in
+    record { are = subst (λ (l : List ℕ). IsBlocks (length l) bytes) read here; size = ap length (sym read) ∙ size; read = sym read }
+
+-- and one that begins so is runs
+pub runs_known : (count : ℕ) (bytes : List ℕ) → 0 < count → IsBody count bytes (body_numbers_of count bytes) → (length bytes ≡ 2 * count → ⊥) → begins_runs bytes ≡ true
+    → HasRuns count bytes bytes
+runs_known count bytes some is ne begun =
+    let xs : List ℕ = body_numbers_of count bytes in
+    let read : xs ≡ runs_from 0 (drop 2 bytes) = ap (λ (b : Bool). by_size b bytes) (ne_eqb (length bytes) (2 * count) ne) ∙ ap (λ (b : Bool). by_head b bytes) begun in
+    let size : length xs ≡ count = is.count_is in
+    let same : runs (boundaries xs) ≡ bytes = elim (cases_few xs) [
+      | inl fits ↦ sym (body_runs xs fits) ∙ is.encoding
+      | inr other ↦ elim (cases_lt (length (blocks xs)) (2 * length xs)) [
+        | inl less ↦ (
+            let encoding : blocks xs ≡ bytes = sym (body_blocks xs other less) ∙ is.encoding in
+            absurd (true≢false (sym begun ∙ ap begins_runs (sym encoding) ∙ blocks_begin (length xs) (blocks xs) (blocks_are_blocks xs is.rising (omega arith)))))
+        | inr more ↦ absurd (ne (sym (ap length (sym (body_numbers xs other more) ∙ is.encoding)) ∙ numbers_len xs ∙ ap (λ (n : ℕ). 2 * n) size))
+      ]
+    ] in
+    let bounds : pairs_of (drop 2 bytes) ≡ boundaries xs = ap (λ (l : List ℕ). pairs_of (drop 2 l)) (sym same) ∙ runs_read (boundaries xs) (bounds_rise xs is.rising) in
+    record { rising = subst (IsRising 0 65536) (sym bounds) (bounds_rise xs is.rising); size = ap length (sym read) ∙ size; read = sym read }
 
 pub numbers_read : (count : ℕ) (bytes : List ℕ) → length bytes ≡ 2 * count → body_numbers_of count bytes ≡ pairs_of bytes
-numbers_read count bytes e = ap (λ (b : Bool). cond b (pairs_of bytes) (block_numbers bytes)) (eq-eqb (length bytes) (2 * count) e)
+numbers_read count bytes e = ap (λ (b : Bool). by_size b bytes) (eq-eqb (length bytes) (2 * count) e)
+
+-- the body of a chunk
+pub record IsOf (ids chunks m own : ℕ) (rest body : List ℕ) : Type 0 where
+  pub is : IsRest ids chunks rest
+  pub within : m < chunks
+  pub count_is : own ≡ count_at chunks rest m
+  pub body_is : body ≡ body_at chunks rest m
+
+apart_of : (chunks m own : ℕ) (rest body : List ℕ) → own ≡ count_at chunks rest m → body ≡ body_at chunks rest m → (length body ≡ 2 * own → ⊥)
+    → length (body_at chunks rest m) ≡ 2 * count_at chunks rest m → ⊥
+apart_of chunks m own rest body o e ne h = ne (ap length e ∙ h ∙ ap (λ (n : ℕ). 2 * n) (sym o))
+
+pub blocks_known : (ids chunks m own : ℕ) (rest body : List ℕ) → IsOf ids chunks m own rest body → (length body ≡ 2 * own → ⊥) → begins_runs body ≡ false
+    → HasBlocks (count_at chunks rest m) (body_at chunks rest m) body
+blocks_known ids chunks m own rest body of ne plain =
+    let here = blocks_read (count_at chunks rest m) (body_at chunks rest m) (of.is.entries m of.within).some (of.is.bodies m of.within) (apart_of chunks m own rest body of.count_is of.body_is ne)
+    (ap begins_runs (sym of.body_is) ∙ plain) in
+    subst (HasBlocks (count_at chunks rest m) (body_at chunks rest m)) (sym of.body_is) here
+
+pub runs_of : (ids chunks m own : ℕ) (rest body : List ℕ) → IsOf ids chunks m own rest body → (length body ≡ 2 * own → ⊥) → begins_runs body ≡ true
+    → HasRuns (count_at chunks rest m) (body_at chunks rest m) body
+runs_of ids chunks m own rest body of ne begun =
+    let here = runs_known (count_at chunks rest m) (body_at chunks rest m) (of.is.entries m of.within).some (of.is.bodies m of.within) (apart_of chunks m own rest body of.count_is of.body_is ne)
+    (ap begins_runs (sym of.body_is) ∙ begun) in
+    subst (HasRuns (count_at chunks rest m) (body_at chunks rest m)) (sym of.body_is) here
 
 pub numbers_known : (chunks m own : ℕ) (rest body : List ℕ) → own ≡ count_at chunks rest m → body ≡ body_at chunks rest m
     → length body ≡ 2 * own → pairs_of body ≡ body_numbers_of (count_at chunks rest m) (body_at chunks rest m)

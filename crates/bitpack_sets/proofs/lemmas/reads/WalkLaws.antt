@@ -3,7 +3,7 @@ use Rattle.std.proofs.Common.{◌≡◌, ℕ, zero, suc, ◌+◌, ◌-◌, ◌*�
 use Rattle.std.proofs.Math.Bool.{or-false}
 use Rattle.std.proofs.lemmas.Bool.{ne_eqb}
 use Rattle.std.proofs.lemmas.List.{drop_all, drop_more}
-use Rattle.bitpack_sets.proofs.lemmas.reads.JoinLaws.{join_rises}
+use Rattle.bitpack_slices.proofs.ForCallers.{join_rises}
 use Rattle.bitpack_sets.proofs.lemmas.reads.JoinReads.{has_other, has_same}
 use Rattle.bitpack_slices.proofs.ForCallers.{AreParts, has_append, has_below, join, le_self, rising_drop, rising_room}
 use Rattle.bitpack_sets.specs.Chunks.{first_key}

@@ -1,16 +1,8 @@
 -- What the lemmas of this crate speak of.
 use Rattle.std.proofs.Common.{◌≡◌, ℕ, ◌*◌, ◌^◌, ◌<◌, ◌≤◌, List, ◌∷◌, ◌++◌, length}
-use Rattle.bitpack_slices.specs.Bodies.{IsRising, le_bytes, parts, slice}
+use Rattle.bitpack_slices.specs.Bodies.{IsRising, parts}
 use Rattle.bitpack_sets.specs.Sets.{array, body, long}
 use Rattle.bitpack_sets.specs.Varints.{number}
-
--- numbers of so many bytes have one encoding
-abbrev pub OneLeBytes : Type 0
-OneLeBytes = (size x y : ℕ) → x < 256 ^ size → y < 256 ^ size → le_bytes size x ≡ le_bytes size y → x ≡ y
-
--- a slice of a count of numbers is that of no others
-abbrev pub OneSlice : Type 0
-OneSlice = (xs ys : List ℕ) → IsRising 0 256 xs → IsRising 0 256 ys → length xs ≡ length ys → slice xs ≡ slice ys → xs ≡ ys
 
 -- a body and its count of numbers are those of no other chunk
 abbrev pub OneBody : Type 0

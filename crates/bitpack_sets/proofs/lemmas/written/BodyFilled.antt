@@ -1,12 +1,13 @@
 -- The parts of a body together.
-use Rattle.std.proofs.Common.{◌≡◌, ℕ, ◌+◌, ◌-◌, ◌*◌, ◌/◌, ◌%◌, ◌<◌, ◌≤◌, List, [], ◌∷◌, ◌++◌, map, length, set, refl, sym, ap, ◌∙◌, arith, append_assoc, inl, inr}
+use Rattle.std.proofs.Common.{◌≡◌, ℕ, ◌+◌, ◌-◌, ◌*◌, ◌/◌, ◌%◌, ◌<◌, ◌≤◌, List, [], ◌∷◌, ◌++◌, map, length, set, false, subst, refl, sym, ap, ◌∙◌, arith, append_assoc, inl, inr}
 use Rattle.std.specs.List.{flat_map}
 use Rattle.std.proofs.lemmas.Bool.{cases_lt}
 use Rattle.std.proofs.lemmas.List.{length-map}
-use Rattle.bitpack_sets.proofs.lemmas.encodings.BodyLaws.{body_blocks, body_numbers, numbers_len}
-use Rattle.bitpack_slices.proofs.ForCallers.{AreParts, rising_room}
+use Rattle.bitpack_sets.proofs.lemmas.encodings.BodyLaws.{body_blocks, body_numbers, few, numbers_len}
+use Rattle.bitpack_slices.proofs.ForCallers.{AreParts, join_parts, join_rises, rising_room}
 use Rattle.bitpack_sets.proofs.lemmas.written.RunLaws.{blocks_len, slices_are}
 use Rattle.bitpack_slices.specs.Bodies.{IsRising, blocks, blocks_of, le_bytes, numbers, parts, slice}
+use Rattle.bitpack_slices.specs.Runs.{are_few, boundaries}
 use Rattle.bitpack_sets.specs.Sets.{body}
 use Rattle.bitpack_slices.specs.Slices.{slice_len}
 use Rattle.bitpack_sets.specs.Written.{IsChunk, counts, highs, lows, slices}
@@ -80,25 +81,33 @@ unfolding numbers
 pairs_are [] = refl
 pairs_are (x ∷ ids) = ap (λ (l : List ℕ). l ++ flat_map (le_bytes 2) ids) (two_bytes x) ∙ ap (λ (l : List ℕ). le_bytes 2 (x % 65536) ++ l) (pairs_are ids)
 
--- the length of a body says which form it has
-pub is_blocks : (ids : List ℕ) → length (body (lows ids)) < 2 * length ids → body (lows ids) ≡ blocks (lows ids)
-is_blocks ids less = elim (cases_lt (length (blocks (lows ids))) (2 * length (lows ids))) [
-  | inl few ↦ body_blocks (lows ids) few
+-- the length of a body that is no runs says which form it has
+pub is_blocks : (ids : List ℕ) → few (lows ids) ≡ false → length (body (lows ids)) < 2 * length ids → body (lows ids) ≡ blocks (lows ids)
+is_blocks ids other less = elim (cases_lt (length (blocks (lows ids))) (2 * length (lows ids))) [
+  | inl shorter ↦ body_blocks (lows ids) other shorter
   | inr many ↦
-      let e = ap length (body_numbers (lows ids) many) in
+      let e = ap length (body_numbers (lows ids) other many) in
       let f = numbers_len (lows ids) in
       let g = length-map ids (λ id. id % 65536) in
       absurd (omega arith)
 ]
 
-pub is_numbers : (ids : List ℕ) → 2 * length ids ≤ length (body (lows ids)) → body (lows ids) ≡ numbers (lows ids)
-is_numbers ids more = elim (cases_lt (length (blocks (lows ids))) (2 * length (lows ids))) [
-  | inl few ↦
-      let e = ap length (body_blocks (lows ids) few) in
+pub is_numbers : (ids : List ℕ) → few (lows ids) ≡ false → 2 * length ids ≤ length (body (lows ids)) → body (lows ids) ≡ numbers (lows ids)
+is_numbers ids other more = elim (cases_lt (length (blocks (lows ids))) (2 * length (lows ids))) [
+  | inl shorter ↦
+      let e = ap length (body_blocks (lows ids) other shorter) in
       let g = length-map ids (λ id. id % 65536) in
       absurd (omega arith)
-  | inr many ↦ body_numbers (lows ids) many
+  | inr many ↦ body_numbers (lows ids) other many
 ]
 
 pub numbers_size : (ids : List ℕ) → length (numbers (lows ids)) ≡ 2 * length ids
 numbers_size ids = let e = numbers_len (lows ids) in let f = length-map ids (λ id. id % 65536) in omega arith
+
+-- whether a chunk has few boundaries, by how many ids it has
+pub few_lows : (ids : List ℕ) → few (lows ids) ≡ are_few (length (boundaries (lows ids))) (length ids)
+few_lows ids = ap (are_few (length (boundaries (lows ids)))) (length-map ids (λ id. id % 65536))
+
+-- the low numbers of a chunk increase
+pub lows_rise : (ids : List ℕ) → IsChunk ids → IsRising 0 65536 (lows ids)
+lows_rise ids chunk = subst (IsRising 0 65536) (join_parts 256 (lows ids)) (join_rises 256 0 256 (parts 256 (lows ids)) (slices_are ids chunk))

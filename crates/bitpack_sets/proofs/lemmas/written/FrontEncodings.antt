@@ -9,7 +9,7 @@ use Rattle.bitpack_sets.proofs.lemmas.written.LongFilled.{ends_size, keys_size, 
 use Rattle.bitpack_slices.proofs.ForCallers.{counts, keys, total}
 use Rattle.bitpack_sets.proofs.lemmas.encodings.LongLaws.{concat_len, join_len}
 use Rattle.bitpack_sets.proofs.lemmas.encodings.LongLaws as encodings
-use Rattle.bitpack_sets.proofs.lemmas.reads.JoinLaws.{join_parts}
+use Rattle.bitpack_slices.proofs.ForCallers.{join_parts}
 use Rattle.bitpack_sets.specs.Fronts.{IsNext}
 use Rattle.bitpack_slices.specs.Bodies.{le_bytes, parts, with_number}
 use Rattle.bitpack_sets.specs.Sets.{body, sums}

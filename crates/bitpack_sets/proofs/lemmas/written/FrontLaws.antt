@@ -10,7 +10,7 @@ use Rattle.bitpack_sets.proofs.lemmas.faults.ChunkLaws.{from_chunk, shorts_all}
 use Rattle.bitpack_sets.proofs.lemmas.reads.ChunkReads.{sum_all}
 use Rattle.bitpack_sets.proofs.lemmas.encodings.EncodeLaws.{few_is}
 use Rattle.bitpack_sets.proofs.lemmas.faults.EntryLaws.{body_len, ends_grow, grown_to, sums_grow}
-use Rattle.bitpack_sets.proofs.lemmas.reads.JoinLaws.{join_parts, join_rises, parts_are, parts_join}
+use Rattle.bitpack_slices.proofs.ForCallers.{join_parts, join_rises, parts_are, parts_join}
 use Rattle.bitpack_sets.proofs.lemmas.encodings.LongLaws.{join_len}
 use Rattle.bitpack_sets.proofs.lemmas.encodings.LongLaws as encodings
 use Rattle.bitpack_sets.proofs.lemmas.encodings.ShortLaws.{Grows, map_map, map_same, before_next, step_of, steps_summed, steps_taken, steps_total}

@@ -1,7 +1,7 @@
 -- Chunks that are measured one after the other.
-use Rattle.std.proofs.Common.{◌≡◌, ℕ, ◌+◌, ◌-◌, ◌*◌, ◌^◌, ◌<◌, ◌≤◌, List, [], ◌∷◌, length, take, drop, refl, sym, ap, ◌∙◌, arith, subst, length-drop}
+use Rattle.std.proofs.Common.{◌≡◌, false, ℕ, ◌+◌, ◌-◌, ◌*◌, ◌^◌, ◌<◌, ◌≤◌, List, [], ◌∷◌, length, take, drop, refl, sym, ap, ◌∙◌, arith, subst, length-drop}
 use Rattle.std.specs.List.{concat}
-use Rattle.bitpack_sets.proofs.lemmas.encodings.BodyLaws.{body_blocks, body_numbers, numbers_len}
+use Rattle.bitpack_sets.proofs.lemmas.encodings.BodyLaws.{body_blocks, body_numbers, few, numbers_len}
 use Rattle.bitpack_slices.proofs.ForCallers.{rising_drop, tail_whole}
 use Rattle.bitpack_sets.proofs.lemmas.written.RunLaws.{blocks_len, body_sizes}
 use Rattle.bitpack_slices.specs.Bodies.{IsRising, blocks, numbers, parts}
@@ -40,19 +40,19 @@ chunks_end ids (x ∷ left) bytes before none = absurd (omega arith)
 
 -- ---- bodies
 
-pub blocks_shorter : (len count size : ℕ) (xs : List ℕ) → 1 + slice_len count + count + size < 2 * len → length xs ≡ len → length (parts 256 xs) ≡ count
+pub blocks_shorter : (len count size : ℕ) (xs : List ℕ) → few xs ≡ false → 1 + slice_len count + count + size < 2 * len → length xs ≡ len → length (parts 256 xs) ≡ count
     → length (slices (parts 256 xs)) ≡ size → 1 + slice_len count + count + size ≡ length (body xs)
-blocks_shorter len count size xs less a b c =
+blocks_shorter len count size xs other less a b c =
     let e = blocks_len xs in
     let f = ap slice_len b in
     let same : 1 + slice_len count + count + size ≡ length (blocks xs) = omega arith in
-    same ∙ sym (ap length (body_blocks xs (omega arith)))
+    same ∙ sym (ap length (body_blocks xs other (omega arith)))
 
-pub numbers_shorter : (len count size : ℕ) (xs : List ℕ) → 2 * len ≤ 1 + slice_len count + count + size → length xs ≡ len → length (parts 256 xs) ≡ count
+pub numbers_shorter : (len count size : ℕ) (xs : List ℕ) → few xs ≡ false → 2 * len ≤ 1 + slice_len count + count + size → length xs ≡ len → length (parts 256 xs) ≡ count
     → length (slices (parts 256 xs)) ≡ size → 2 * len ≡ length (body xs)
-numbers_shorter len count size xs less a b c =
+numbers_shorter len count size xs other less a b c =
     let e = blocks_len xs in
     let f = ap slice_len b in
     let g = numbers_len xs in
     let same : 2 * len ≡ length (numbers xs) = omega arith in
-    same ∙ sym (ap length (body_numbers xs (omega arith)))
+    same ∙ sym (ap length (body_numbers xs other (omega arith)))

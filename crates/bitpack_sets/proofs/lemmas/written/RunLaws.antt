@@ -5,7 +5,7 @@ use Rattle.std.specs.List.{concat}
 use Rattle.std.proofs.lemmas.List.{get_or-map, length-map, length-take-le, take_all}
 use Rattle.std.proofs.lemmas.Nat.{field_of}
 use Rattle.bitpack_slices.proofs.ForCallers.{AreParts, get_take, rising_drop, rising_room, slice_size}
-use Rattle.bitpack_sets.proofs.lemmas.reads.JoinLaws.{parts_are}
+use Rattle.bitpack_slices.proofs.ForCallers.{parts_are}
 use Rattle.bitpack_slices.specs.Bodies.{IsRising, blocks, blocks_of, parts, slice, with_number}
 use Rattle.bitpack_sets.specs.Sets.{body}
 use Rattle.bitpack_slices.specs.Slices.{slice_len}

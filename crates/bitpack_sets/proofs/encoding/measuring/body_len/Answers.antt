@@ -4,12 +4,12 @@ use Rattle.bitpack_sets.proofs.lemmas.written.MeasureLaws.{blocks_shorter, numbe
 use Rattle.bitpack_sets.proofs.encoding.measuring.body_len.Goals as goal
 
 pub returns-then-blocks-numbers-clause-len : goal.returns-then-blocks-numbers-clause-len
-returns-then-blocks-numbers-clause-len c = λ numbers a b d.
+returns-then-blocks-numbers-clause-len c = λ numbers other a b d.
     let long = c.byte_len.ensures in
-    let e = blocks_shorter c.args.len c.args.count c.args.size numbers (omega arith) a b d in
+    let e = blocks_shorter c.args.len c.args.count c.args.size numbers other (omega arith) a b d in
     omega arith
 
 pub returns-else-blocks-numbers-clause-len : goal.returns-else-blocks-numbers-clause-len
-returns-else-blocks-numbers-clause-len c = λ numbers a b d.
+returns-else-blocks-numbers-clause-len c = λ numbers other a b d.
     let long = c.byte_len.ensures in
-    numbers_shorter c.args.len c.args.count c.args.size numbers (omega arith) a b d
+    numbers_shorter c.args.len c.args.count c.args.size numbers other (omega arith) a b d
