@@ -206,16 +206,35 @@ def blocks_numbers(m, count, body):
     return numbers
 
 
+def are_runs(count, t):
+    return t <= 64 and 8 * t <= count
+
+
+def runs_numbers(m, count, body):
+    need(len(body) % 2 == 0 and len(body) > 2, "BadBody", m)
+    found, _ = shorts_at(2, 2, len(body) // 2 - 1, body)
+    need(found == sorted({*found}), "BadBody", m)
+    ends = found[1::2] + [65_536] * (len(found) % 2)
+    need(sum(ends) - sum(found[0::2]) == count, "BadBody", m)
+    need(are_runs(count, len(found)), "LooseBody", m)
+    return [number for first, end in zip(found[0::2], ends) for number in range(first, end)]
+
+
 def body_numbers(m, position, count, body):
-    if len(body) != 2 * count:
-        return blocks_numbers(m, count, body)
-    numbers, _ = shorts_at(0, 2, count, body)
-    for p in range(1, count):
-        need(numbers[p - 1] < numbers[p], "NotSorted", position + p)
-    highs = [number // 256 for number in numbers]
-    r = len({*highs})
-    blocks_len = 1 + slice_len(r) + r + sum(slice_len(highs.count(high)) for high in {*highs})
-    need(blocks_len >= 2 * count, "LooseBody", m)
+    if len(body) == 2 * count:
+        numbers, _ = shorts_at(0, 2, count, body)
+        for p in range(1, count):
+            need(numbers[p - 1] < numbers[p], "NotSorted", position + p)
+        highs = [number // 256 for number in numbers]
+        r = len({*highs})
+        blocks_len = 1 + slice_len(r) + r + sum(slice_len(highs.count(high)) for high in {*highs})
+        need(blocks_len >= 2 * count, "LooseBody", m)
+    elif body[:2] == bytes([1, 255]):
+        return runs_numbers(m, count, body)
+    else:
+        numbers = blocks_numbers(m, count, body)
+    t = len(({*numbers} ^ {number + 1 for number in numbers}) - {65_536})
+    need(not are_runs(count, t), "LooseBody", m)
     return numbers
 
 

@@ -4,6 +4,8 @@ from itertools import groupby
 
 from parts import drawn, group, number
 
+EVEN = [65536 + 2 * i for i in range(128)]  # a chunk of 128 numbers, after one that may have fewer
+
 # Sets worked by hand, with their bytes.
 WORKED = [
     ([], "80"),
@@ -14,19 +16,35 @@ WORKED = [
     ([*range(34)], "A2 00 00 00"),
     ([*range(0, 69, 2)], "A3 00 01 FFFFFFFF 01 03"),
     ([0, 2**32 - 1], "82 00 20 FEFFFFFF"),
-    ([*range(128)], "05 8001 01 11 0000 23 80" + "00 00 7F" + 16 * "FF" + 16 * "00"),
-    ([*range(65536, 65536 + 128)], "05 8001 01 11 0100 23 80" + "00 00 7F" + 16 * "FF" + 16 * "00"),
-    ([*range(256, 384)], "05 8001 01 11 0000 23 80" + "00 01 7F" + 16 * "FF" + 16 * "00"),
+    ([*range(128)], "05 8001 01 11 0000 06 80" + "01FF 0000 8000"),
     ([*range(0, 255, 2)], "05 8001 01 11 0000 23 80" + "00 00 7F" + 32 * "55"),
-    ([*range(256)], "05 8002 01 21 0000 03 0001" + "00 00 FF"),
-    ([*range(65536)], "05 808004 01 32 0000 0101 000001" + 257 * "FF"),
+    ([*range(65537, 65537 + 255, 2)], "05 8001 01 11 0100 23 80" + "00 00 7F" + 32 * "AA"),
+    ([*range(65536, 65536 + 128)], "05 8001 01 11 0100 06 80" + "01FF 0000 8000"),
+    ([*range(256, 384)], "05 8001 01 11 0000 06 80" + "01FF 0001 8001"),
+    ([*range(256)], "05 8002 01 21 0000 06 0001" + "01FF 0000 0001"),
+    ([*range(65536)], "05 808004 01 31 0000 04 000001" + "01FF 0000"),
+    ([*range(100, 10000)], "05 AC4D 01 21 0000 06 AC26" + "01FF 6400 1027"),
+    ([*range(60000, 65536)], "05 A02B 01 21 0000 04 A015" + "01FF 60EA"),
+    ([*range(65504, 65632)], "05 8001 02 11 0000 0100 04 0A 20 80" + "01FF E0FF" + "01FF 0000 6000"),
+    ([*range(65530, 65658)], "05 8001 02 11 0000 0100 09 0F 06 80" + "00 FF 05 FA FB FC FD FE FF" + "01FF 0000 7A00"),
     (
-        [*range(65530, 65658)],
-        "05 8001 02 11 0000 0100 09 2C 06 80" + "00 FF 05 FA FB FC FD FE FF" + "00 00 79" + 15 * "FF" + "03" + 16 * "00",
+        [*range(1000), *range(2000, 3000), *range(3001, 65536)],
+        "05 97F803 01 21 0000 0C 17FC" + "01FF 0000 E803 D007 B80B B90B",
     ),
     (
-        [*range(31), *range(256, 353)],
-        "05 8001 01 11 0000 44 80" + "01 00 01 1E 60" + bytes(range(31)).hex() + 12 * "FF" + "01" + 19 * "00",
+        [*range(300000)],
+        "05 E0A712 05 31 0000 0100 0200 0300 0400 04 08 0C 10 16 000001 000002 000003 000004 E09304" + 4 * "01FF 0000" + "01FF 0000 E093",
+    ),
+    (
+        [256 * i + j for i in range(32) for j in range(32)],
+        "05 8008 01 21 0000 82 0004 01FF" + "".join(f"00{i:02x} 20{i:02x}" for i in range(32)),
+    ),
+    ([65281, *EVEN], "05 8101 02 11 0000 0100 02 25 01 81" + "01FF" + "00 00 7F" + 32 * "55"),
+    ([65281, 65282, *EVEN], "05 8201 02 11 0000 0100 04 27 02 82" + "01FF 02FF" + "00 00 7F" + 32 * "55"),
+    ([*range(65024, 65536, 2)], "05 8002 01 21 0000 45 0001" + "01 FE FF 7F 7F" + 64 * "55"),
+    (
+        [*range(0, 62, 2), *range(256, 449, 2)],
+        "05 8001 01 11 0000 44 80" + "01 00 01 1E 60" + bytes(range(0, 62, 2)).hex() + 24 * "55" + "01" + 7 * "00",
     ),
     (
         [*range(0, 63, 2), *range(256, 352)],
@@ -68,7 +86,16 @@ def pairs_of(numbers):
     return b"".join(bytes([it % 256, it // 256]) for it in numbers)
 
 
+def boundaries_of(numbers):
+    """The first number of each run, and the one after it, if that is a number of a chunk."""
+    runs = [[it for _, it in run] for _, run in groupby(enumerate(numbers), lambda it: it[1] - it[0])]
+    return [it for run in runs for it in (run[0], run[-1] + 1) if it < 2**16]
+
+
 def body_of_chunk(numbers):
+    found = boundaries_of(numbers)
+    if len(found) <= min(64, len(numbers) // 8):
+        return bytes([1, 255]) + pairs_of(found)
     return min(pairs_of(numbers), blocks_of(numbers), key=len)  # of two with one length, the first
 
 
@@ -120,9 +147,6 @@ def spread(count):
     return [256 * i // count for i in range(count)]
 
 
-FILL = [65536 + 2 * i for i in range(128)]  # a chunk of 128 numbers, after one that has fewer
-
-
 def few_sets():
     """Sets below 128 ids: each limit of a number as the first id, each width, and counts at the ends of groups."""
     for bits in [0, 1, 6, 7, 8, 14, 15, 21, 22, 28, 29, 31]:
@@ -139,20 +163,60 @@ def few_sets():
 
 def slice_sets():
     """Slices of each form, of low bytes and of high bytes, and bodies on both sides of the edge between numbers and blocks."""
-    for c in [1, 2, 3, 30, 31, 32, 33, 127, 128, 129, 254, 255, 256]:
+    for c in [1, 2, 3, 15, 16, 17, 30, 31, 32, 33, 127, 128, 129, 254, 255, 256]:
         yield placed((0, range(0, 256, 2)), (200, spread(c)))
         yield placed((c % 7, range(256 - c, 256)), (9, range(1, 256, 2)))
-    for r in [1, 2, 3, 30, 31, 32, 33, 127, 128, 254, 255, 256]:
-        yield placed(*((high, [high - 1, 255] if high % 2 else range(4)) for high in spread(r))) + FILL
+    for r in [1, 2, 3, 15, 16, 17, 30, 31, 32, 33, 127, 128, 254, 255, 256]:
+        yield placed(*((high, [high - 1, 255] if high % 2 else range(4)) for high in spread(r))) + EVEN
     for r in [1, 2, 5, 20, 27, 28]:  # blocks take 3 * r + c bytes, and numbers 2 * (c + r - 1)
         for c in [r + 1, r + 2, r + 3]:
-            yield placed(*((high, [high + 1]) for high in range(r - 1)), (255, spread(c))) + FILL
-    for c in [31, 32, 33, 34, 35]:  # 31 other slices of one number
-        yield placed(*((high, [high]) for high in range(31)), (100, spread(c))) + FILL
+            yield placed(*((high, [high + 1]) for high in range(r - 1)), (255, spread(c))) + EVEN
+    for c in [15, 16, 17, 31, 32, 33, 34, 35]:  # 31 other slices of one number
+        for lows in [spread(c), range(c), range(256 - c, 256)]:
+            yield placed(*((high, [high]) for high in range(31)), (100, lows)) + EVEN
     for r in [31, 32, 33, 34, 35, 255, 256]:  # two numbers each
-        yield placed(*((high, [0, 255]) for high in spread(r))) + FILL
+        yield placed(*((high, [0, 255]) for high in spread(r))) + EVEN
     for count in [128, 129, 255, 256]:
         yield [256 * i + 255 - i for i in spread(256)[:count]]
+
+
+def in_runs(t, k):
+    """k numbers of a chunk with t boundaries. The last run has the most numbers, and ends with 65535 if t is odd."""
+    runs = (t + 1) // 2
+    lens = [k // runs] * (runs - 1) + [k - k // runs * (runs - 1)]
+    firsts = [65536 // runs * i + i for i in range(runs - 1)] + [65536 - t % 2 * lens[-1] - (1 - t % 2) * (lens[-1] + 1)]
+    return [first + i for first, size in zip(firsts, lens) for i in range(size)]
+
+
+def run_sets():
+    """Chunks on both sides of each limit of runs, and runs at the ends of slices and of chunks."""
+    for t in [1, 2, 3, 4, 5, 31, 32, 33, 63, 64, 65, 66, 67]:
+        for k in [8 * t - 1, 8 * t, 8 * t + 1, 200 * t]:
+            yield in_runs(t, k) + EVEN
+    for c in [15, 16, 17, 31, 32, 33, 255, 256]:
+        for r in [1, 4, 32, 33]:  # 16 numbers a slice are runs
+            yield placed(*((2 * i, range(c)) for i in range(r))) + EVEN
+            yield placed(*((2 * i + 1, range(256 - c, 256)) for i in range(r))) + EVEN
+        yield placed((0, range(c)), (255, range(256 - c, 256)), (256, range(128)))
+    yield [0, 2, 4, *range(6, 200)]  # runs of one number, with one between them
+    yield [*range(100), 101, *range(103, 200), 201]
+    yield [*range(65536, 65536 + 66), *range(65536 + 67, 65536 + 130)]
+    yield [0, *range(2, 200)]
+    yield [*range(200), 202, 65535]
+    yield [*range(126), 65534, 65535]
+    yield [*range(65535 - 200, 65535)]
+    for gap in [0, 256]:
+        yield [it for it in range(65536) if it != gap]
+    yield [0, 65535, *range(65536, 2 * 65536), 2 * 65536, 3 * 65536 - 1]
+    yield [*range(2**32 - 65536, 2**32)]
+    yield [*range(65536 - 8, 65536 + 8), *range(3 * 65536 - 7, 3 * 65536 + 9), *range(2**31 - 100, 2**31 + 100)]
+    numbers, bits, runs = [512 * i + 3 for i in range(100)], range(0, 254, 2), range(7, 2000)
+    parts = [numbers, bits, runs, runs, numbers, runs, bits]
+    yield [65536 * m + it for m, part in enumerate(parts) for it in part]
+    longer = [it for i in range(32) for it in range(2000 * i, 2000 * i + 900)]
+    yield longer
+    yield [*longer, 65000]
+    yield [*longer, *range(65000, 65536)]
 
 
 def array_sets():
@@ -212,7 +276,7 @@ def drawn_sets():
 def id_sets():
     """All sets with their bytes, each once."""
     found = {bytes.fromhex(text): ids for ids, text in WORKED}
-    for ids in [*few_sets(), *slice_sets(), *array_sets(), *sized_sets(), *drawn_sets()]:
+    for ids in [*few_sets(), *slice_sets(), *run_sets(), *array_sets(), *sized_sets(), *drawn_sets()]:
         assert all(before < after < 2**32 for before, after in zip(ids, ids[1:]))
         found.setdefault(set_text(ids), ids)
     return [(ids, text) for text, ids in found.items()]

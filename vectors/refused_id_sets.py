@@ -2,7 +2,7 @@
 texts with drawn bytes are found by decoders.py."""
 
 from decoders import decode_set
-from id_sets import FILL, WORKED, array_of, chunked, few_of, pairs_of, placed, set_text, spread
+from id_sets import EVEN, WORKED, array_of, blocks_of, chunked, few_of, in_runs, pairs_of, placed, set_text, spread
 from parts import CUT_NUMBERS, MOST, NO_NUMBERS, drawn, group, number
 
 # Bytes worked by hand.
@@ -18,7 +18,7 @@ WORKED_REFUSALS = {
     "BadSizes(16)": ["0580010110"],
     "BadSizes(129)": ["058001018101"],
 }
-# What stands at an offset of the set of 0 to 127 in place of a byte.
+# What stands at an offset of the set of 0, 2 .. 254 in place of a byte.
 CHANGED = [
     (3, "02", "BadOffset(0)"),
     (3, "21", "BadNumber"),
@@ -32,16 +32,55 @@ CHANGED = [
     (12, "FE", "BadBody(0)"),
     (43, "01", "BadBody(0)"),
 ]
-BITS = bytes([0, 0, 127]) + 16 * b"\xff" + bytes(16)  # the body of 0 to 127
+# The same of the set of 0 to 127.
+CHANGED_RUNS = [
+    (7, "02", "BadBody(0)"),
+    (7, "04", "BadBody(0)"),
+    (7, "05", "BadBody(0)"),
+    (7, "07", "Short"),
+    (9, "00", "BadBody(0)"),
+    (10, "FE", "BadBody(0)"),
+    (11, "01", "BadBody(0)"),
+    (12, "01", "BadBody(0)"),
+    (13, "00", "BadBody(0)"),
+    (13, "7F", "BadBody(0)"),
+    (13, "81", "BadBody(0)"),
+    (14, "01", "BadBody(0)"),
+]
+# Sets in one chunk: how many ids, the end, the sum, and the body.
+WORKED_BODIES = [
+    ("LooseBody(0)", "8001", "11", "23", "80", "00 00 7F" + 16 * "FF" + 16 * "00"),  # 0 to 127 as blocks
+    ("LooseBody(0)", "808004", "32", "0101", "000001", 257 * "FF"),  # 0 to 65535 as blocks
+    ("BadBody(0)", "808004", "31", "04", "000001", "01FF 0100"),  # one number less
+    ("BadBody(0)", "808004", "31", "02", "000001", "01FF"),  # no boundary
+    ("BadBody(0)", "AC4D", "21", "06", "AC26", "01FF 1027 6400"),  # boundaries exchanged
+    ("BadBody(0)", "AC4D", "21", "06", "AC26", "01FF 6400 0F27"),  # one number less
+    ("BadBody(0)", "AC4D", "21", "06", "AC26", "01FF 6400 1127"),
+    ("BadBody(0)", "AC4D", "21", "05", "AC26", "01FF 6400 10"),
+    ("BadBody(0)", "AC4D", "21", "05", "AC26", "01FF 6400 10 27"),  # before Trailing
+    ("BadBody(0)", "AC4D", "21", "07", "AC26", "01FF 6400 1027 00"),
+    ("BadBody(0)", "AC4D", "21", "08", "AC26", "01FF 6400 1027 1027"),  # a run of no number
+    ("BadBody(0)", "AC4D", "21", "0A", "AC26", "01FF 6400 E803 E803 1027"),
+    ("BadBody(0)", "8001", "11", "16", "80", "01FF" + "".join(f"{16 * i:02x}00 {16 * i + 8:02x}00" for i in range(5))),  # 40 numbers
+    ("LooseBody(0)", "8001", "11", "42", "80", "01FF" + "".join(f"{16 * i:02x}00 {16 * i + 8:02x}00" for i in range(16))),
+    ("BadBody(0)", "808004", "31", "06", "000001", "01FF 0000 0000"),
+    ("BadBody(0)", "8002", "21", "06", "0001", "01FF 00FF 0000"),  # the end of a chunk as a boundary
+    ("LooseBody(0)", "8002", "21", "03", "0001", "00 00 FF"),  # 0 to 255 as blocks
+]
+BITS = bytes([0, 0, 127]) + 32 * b"\x55"  # the body of 0, 2 .. 254
+RUN = bytes([1, 255, 0, 0, 0, 1])  # the body of 0 to 255
 
 
 def worked_refusals():
     for fault, texts in WORKED_REFUSALS.items():
         for text in texts:
             yield fault, bytes.fromhex(text)
-    text = bytes.fromhex(WORKED[8][1])
-    for offset, byte, fault in CHANGED:
-        yield fault, text[:offset] + bytes.fromhex(byte) + text[offset + 1 :]
+    for place, changed in [(8, CHANGED_RUNS), (9, CHANGED)]:
+        text = bytes.fromhex(WORKED[place][1])
+        for offset, byte, fault in changed:
+            yield fault, text[:offset] + bytes.fromhex(byte) + text[offset + 1 :]
+    for fault, count, sizes, end, total, body in WORKED_BODIES:
+        yield fault, bytes.fromhex(f"05 {count} 01 {sizes} 0000 {end} {total} {body}")
     evens = [2 * i for i in range(128)]
     yield "LooseBody(0)", chunked(128, [0], [256], [128], [pairs_of(evens)])
     yield "LooseForm", array_of([16384 * i for i in range(128)])
@@ -138,10 +177,10 @@ def refused_directories():
                 yield f"BadSizes({sizes})", chunked(128, [0], [35], [128], [], sizes)  # before Short
                 yield f"BadSizes({sizes})", chunked(128, [0], [35], [128], [BITS, b"\0"], sizes)
     for sizes in [0x33, 0x22, 0x24]:
-        yield f"BadSizes({sizes})", chunked(256, [0], [3], [256], [bytes([0, 0, 255])], sizes)
-    two = [BITS, bytes([0, 0, 255])]
+        yield f"BadSizes({sizes})", chunked(256, [0], [6], [256], [RUN], sizes)
+    two = [BITS, RUN]
     for keys, m in [([0, 0], 1), ([1, 0], 1), ([65535, 65535], 1), ([256, 1], 1), ([0, 65535, 65534], 2), ([0, 5, 5], 2), ([7, 6, 6], 1)]:
-        counts, lens = [128, 256, 256][: len(keys)], [35, 3, 3][: len(keys)]
+        counts, lens = [128, 256, 256][: len(keys)], [35, 6, 6][: len(keys)]
         ends, sums = ([sum(them[: m + 1]) for m in range(len(keys))] for them in [lens, counts])
         yield f"BadKey({m})", chunked(sums[-1], keys, ends, sums, two + two[1:] * (len(keys) - 2))
         yield f"BadKey({m})", chunked(sums[-1] + 1, keys, [*ends[:-1], 0], sums, [])  # before BadSum, BadOffset and Short
@@ -168,7 +207,7 @@ def refused_directories():
             count, keys, [35 * key + 35 for key in keys[:m]] + [0] * (len(keys) - m), sums, [], sizes
         )  # before BadOffset
     yield "BadOffset(0)", chunked(256, [0, 0], [0, 3], [128, 256], [])  # chunk by chunk, before BadKey(1)
-    yield "BadSum(0)", chunked(256, [0, 0], [3, 3], [0, 256], [])
+    yield "BadSum(0)", chunked(256, [0, 0], [6, 6], [0, 256], [])
     for ends, m in [
         ([0], 0),
         ([257], 0),
@@ -188,6 +227,65 @@ def refused_directories():
         yield "Short", chunked(128, [0], [end], [128], [bytes(end - 1)])  # before BadBody and NotSorted
 
 
+def runs_of(boundaries):
+    return bytes([1, 255]) + pairs_of(boundaries)
+
+
+def edges_of(t, k):
+    """The boundaries of in_runs(t, k)."""
+    numbers = {*in_runs(t, k)}
+    return sorted((numbers ^ {it + 1 for it in numbers}) - {65536})
+
+
+def refused_runs():
+    """Runs with a fault, and other bodies that should be runs: the fault, how many numbers, and the body."""
+    for count, body in [(1, "01"), (2, "01FF"), (3, "01FF"), (3, "01FF 00"), (128, "01FF"), (128, "01FF 00"), (128, "01FF 0000 80")]:
+        yield "BadBody", count, bytes.fromhex(body)
+    yield "BadBody", 128, bytes.fromhex("01FF 0000 8000 00")
+    for count, found in [
+        (3, [0]),
+        (128, [0]),
+        (128, [65407]),
+        (128, [65409]),
+        (128, [65535]),
+        (128, [0, 127]),
+        (128, [0, 129]),
+        (128, [1, 128]),
+        (128, [128, 0]),
+        (128, [5, 5]),
+        (128, [0, 128, 65535]),
+        (128, [0, 64, 64, 128]),
+        (128, [64, 64, 100, 228]),
+        (128, [0, 128, 200, 200]),
+        (128, [0, 100, 50, 78]),
+        (128, [128, 0, 65280]),
+        (128, [300, 428, 100, 100]),
+        (127, [0, 127, 65535]),
+        (65535, [0]),
+        (65535, [0, 65534]),
+        (65536, [0, 65535]),
+        (65536, [1]),
+        (65536, [0, 65535, 65535]),
+    ]:
+        yield "BadBody", count, runs_of(found)
+    for t in [1, 2, 3, 4, 15, 16, 17, 31, 32, 33, 63, 64]:
+        for k in [8 * t - 1, 4 * t]:
+            yield "LooseBody", k, runs_of(edges_of(t, k))
+        for change in [-1, 1]:
+            yield "BadBody", 8 * t - 1 + change, runs_of(edges_of(t, 8 * t - 1))
+        for k in [8 * t, 8 * t + 1, 300 * t]:
+            yield "LooseBody", k, blocks_of(in_runs(t, k))
+        yield "LooseBody", 8 * t, pairs_of(in_runs(t, 8 * t))
+    for t in [65, 66, 67, 128, 129]:
+        for k in [8 * t - 1, 8 * t, 300 * t]:
+            yield "LooseBody", k, runs_of(edges_of(t, k))
+            yield "BadBody", k - 1, runs_of(edges_of(t, k))
+    yield "LooseBody", 8192, blocks_of(placed(*((2 * i, range(256)) for i in range(32))))  # half as long as runs
+    yield "LooseBody", 257, blocks_of(range(257))  # as long as runs
+    yield "LooseBody", 65535, blocks_of(range(65535))
+    yield "LooseBody", 32768, blocks_of(range(32768))
+
+
 def refused_bodies():
     """Chunks with a fault in a body: alone, and as the last of three."""
     blocks = [  # of k numbers, which are no blocks
@@ -199,8 +297,8 @@ def refused_bodies():
         (128, bytes([0, 0, 128]) + BITS[3:]),  # a count of 129
         (128, bytes([0, 0, 126]) + BITS[3:]),
         (128, bytes([0, 0, 127]) + bytes(32)),
-        (128, bytes([0, 0, 127]) + 15 * b"\xff" + b"\x7f" + bytes(16)),
-        (128, bytes([0, 0, 127]) + 17 * b"\xff" + bytes(15)),
+        (128, BITS[:-1] + b"\x15"),
+        (128, BITS[:-1] + b"\x57"),
         (128, bytes([0, 0, 255])),
         (256, bytes([0, 0, 255, 0])),
         (256, bytes([0, 0, 255]) + 32 * b"\xff"),
@@ -232,28 +330,35 @@ def refused_bodies():
         *(("LooseBody", 0, placed(*((high, [high]) for high in range(r)), (255, spread(r + 4)))) for r in [0, 4, 27]),
         ("LooseBody", 0, placed(*((high, [0, 1, 2]) for high in range(100)))),
         ("LooseBody", 0, [*range(1000)]),
+        ("NotSorted", 1, [65281, 65281]),
+        ("NotSorted", 1, [65281, 256]),
+        ("NotSorted", 2, [65281, 65282, 65282]),
     ]
     faults = [("BadBody", 0, count, body) for count, body in blocks]
     faults += [(name, position, len(given), pairs_of(given)) for name, position, given in numbers]
+    faults += [(name, 0, count, body) for name, count, body in refused_runs()]
     for name, position, count, body in faults:
-        number_of_ids, end = count + 384, 38 + len(body)
+        number_of_ids, end = count + 384, 41 + len(body)
         place = 384 + position if name == "NotSorted" else 2
-        others = [BITS, bytes([0, 0, 255])]
+        others = [BITS, RUN]
         for after in [b"", b"\0"]:  # before Trailing
             if count >= 128:
                 yield f"{name}({position})", chunked(count, [9], [len(body)], [count], [body, after])
             yield f"{name}({place})", chunked(
-                number_of_ids, [0, 8, 65535], [35, 38, end], [128, 384, number_of_ids], [*others, body, after]
+                number_of_ids, [0, 8, 65535], [35, 41, end], [128, 384, number_of_ids], [*others, body, after]
             )
     twice = pairs_of([0, 0, *range(1, 127)])
     yield "LooseBody(0)", chunked(256, [0, 1], [256, 512], [128, 256], [pairs_of(range(128)), twice])  # body by body
     yield "NotSorted(1)", chunked(256, [0, 1], [256, 512], [128, 256], [twice, pairs_of(range(128))])
+    few, many = runs_of(edges_of(16, 127)), runs_of([1, 128])
+    yield "LooseBody(0)", chunked(255, [0, 1], [34, 40], [127, 255], [few, many])
+    yield "BadBody(0)", chunked(255, [0, 1], [6, 40], [128, 255], [many, few])
 
 
 def cut_sets():
     """Sets without their last bytes, and with a byte more."""
     short = [ids for ids, text in WORKED if len(bytes.fromhex(text)) < 120 and ids]
-    for ids in [*short, [*range(128)] + FILL, [3, *FILL[:100]], [65536 * i for i in range(128)]]:
+    for ids in [*short, [*range(128)] + EVEN, [3, *EVEN[:100]], [65536 * i for i in range(128)]]:
         text = set_text(ids)
         for end in range(1, len(text)) if len(text) < 120 else [len(text) // 2, len(text) - 1]:
             yield "Short", text[:end]
@@ -275,8 +380,11 @@ def drawn_texts():
     that the byte."""
     x = iter(drawn(5000))
     bases = [few_of([7, 9, 10, 300]), few_of([*range(0, 69, 2)]), few_of([x * x for x in range(60)])]
-    bases += [set_text([*them]) for them in [range(128), range(256), range(65530, 65658), [*range(31), *range(256, 353)]]]
-    bases += [set_text([16384 * i for i in range(128)]), set_text([*range(3), *FILL]), set_text([512 * i + 3 for i in range(128)])]
+    bases += [set_text([*range(0, 255, 2)]), set_text([*range(0, 62, 2), *range(256, 449, 2)])]
+    bases += [set_text([*them]) for them in [range(128), range(65536), range(100, 10000), range(65530, 65658)]]
+    bases += [set_text([*range(31), *range(256, 353)]), set_text(in_runs(3, 200) + EVEN + [2**17 + it for it in in_runs(6, 48)])]
+    bases += [set_text(in_runs(64, 512)), chunked(520, [0], [132], [520], [runs_of(edges_of(65, 520))])]
+    bases += [set_text([16384 * i for i in range(128)]), set_text([*range(3), *EVEN]), set_text([512 * i + 3 for i in range(128)])]
     for text in bases:
         for _ in range(32):
             offset, byte = next(x) // 2**8 % len(text), next(x) // 2**16 % 256

@@ -18,8 +18,20 @@ def blocks_bytes(numbers):
     return front + bytes(len(it) - 1 for it in lows.values()) + b"".join(slice_bytes(it) for it in lows.values())
 
 
+def boundaries(numbers):
+    found, end = [], -1
+    for value in [*numbers, 65_536]:
+        if value != end:
+            found += [value] if end < 0 else [end, value]
+        end = value + 1
+    return [it for it in found if it < 65_536]
+
+
 def body_bytes(numbers):
     pairs, blocks = b"".join(it.to_bytes(2, "little") for it in numbers), blocks_bytes(numbers)
+    found = boundaries(numbers)
+    if len(found) <= 64 and 8 * len(found) <= len(numbers):
+        return bytes([1, 255]) + b"".join(it.to_bytes(2, "little") for it in found)
     return blocks if len(blocks) < len(pairs) else pairs
 
 

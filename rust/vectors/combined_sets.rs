@@ -127,12 +127,12 @@ pub fn counted_by_hand(report: &mut Report) {
     report.check("all ids", "or of two, as a set", refused, Err(SetError::TooLong(1 << 29)));
 }
 
-/// The set of all ids of 4096 keys: each body has 256 high bytes, with 256 numbers each.
+/// The set of all ids of 4096 keys: each body is a run.
 fn whole(first: u16) -> Vec<u8> {
-    let mut bytes = vec![0x05, 0x80, 0x80, 0x80, 0x80, 0x01, 0x80, 0x20, 0x43];
+    let mut bytes = vec![0x05, 0x80, 0x80, 0x80, 0x80, 0x01, 0x80, 0x20, 0x42];
     bytes.extend((first..=first + 4095).flat_map(u16::to_le_bytes));
-    bytes.extend((1..=4096u32).flat_map(|it| (257 * it).to_le_bytes().into_iter().take(3)));
+    bytes.extend((1..=4096u16).flat_map(|it| (4 * it).to_le_bytes()));
     bytes.extend((1..=4096u32).flat_map(|it| (65_536 * it).to_le_bytes()));
-    bytes.resize(bytes.len() + 257 * 4096, 0xFF);
+    bytes.extend([0x01, 0xFF, 0, 0].repeat(4096));
     bytes
 }
