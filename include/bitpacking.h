@@ -72,7 +72,7 @@ uint32_t bitpacking_version(void);
 #define BITPACKING_BAD_KEY (-38)         /* sets: the key of a chunk is not above the one before it */
 #define BITPACKING_BAD_SUM (-39)         /* sets: the number of ids of a chunk or of all chunks is wrong */
 #define BITPACKING_BAD_BODY (-40)        /* sets: the bytes of a chunk do not encode its number of ids */
-#define BITPACKING_LOOSE_BODY (-41)      /* sets: a chunk has two bytes for each id, and blocks are shorter */
+#define BITPACKING_LOOSE_BODY (-41)      /* sets: the ids of a chunk belong in another form */
 #define BITPACKING_LOOSE_FORM (-42)      /* sets: the ids are an array, and belong in chunks */
 
 /* Returns what a negative number means: a sentence, which is a constant. Other numbers have a sentence of their own. */
@@ -136,7 +136,7 @@ static inline const char *bitpacking_error_text(ptrdiff_t number)
     case BITPACKING_BAD_BODY:
         return "The bytes of a chunk do not encode its number of ids.";
     case BITPACKING_LOOSE_BODY:
-        return "The bytes of a chunk are not in their shortest form.";
+        return "The ids of a chunk belong in another form.";
     case BITPACKING_LOOSE_FORM:
         return "The ids are an array, and belong in chunks.";
     default:

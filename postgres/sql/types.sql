@@ -40,7 +40,7 @@ SELECT ids, many FROM casts;
 SELECT attstorage FROM pg_attribute WHERE attrelid = 'casts'::regclass AND attname = 'ids';
 -- Bytes that docs/FORMAT.md has: of 7, 9, 10 and 300, of the even numbers to 68, of none, of the numbers to 65535, and of the greatest id.
 SELECT '{7,9,10,300}'::idset::bytea, idset(ARRAY(SELECT generate_series(0, 68, 2)))::bytea, '{}'::idset::bytea;
-SELECT idset(ARRAY(SELECT generate_series(0, 65535)))::bytea = decode('05808004013200000101000001' || repeat('ff', 257), 'hex');
+SELECT idset(ARRAY(SELECT generate_series(0, 65535)))::bytea = '\x05808004013100000400000101ff0000';
 SELECT '\x84070901008404'::bytea::idset, '\x80'::bytea::idset, '\x81ffffffff0f'::bytea::idset, '\xa2000000'::bytea::idset;
 -- Bytes that are refused: none; bytes that begin with 1; a column; bytes that are missing, and one that is left over; an id in six bytes; a bit
 -- after the last code; and an id that is too great.

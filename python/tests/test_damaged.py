@@ -48,7 +48,8 @@ def test_damaged(most):
 
 def test_places():
     """Worked by hand from docs/FORMAT.md."""
-    whole = "058001011100002380" + "00007F" + "FF" * 16 + "00" * 16  # 0 to 127
+    whole = "058001011100002380" + "00007F" + "55" * 32  # 0, 2 to 254
+    runs = "058001011100000680" + "01FF00008000"  # 0 to 127
     for text, place in {
         "": ("Short", None, 0, None),
         "00": ("BadVersion", None, 0, None),
@@ -63,6 +64,10 @@ def test_places():
         whole.replace("80010111", "80010211"): ("BadOffset", 0, 9, None),
         whole.replace("0000238000", "0000228000"): ("BadBody", 0, 9, None),
         whole.replace("0000238000", "0000237F00"): ("BadSum", 0, 8, None),
+        whole.replace("55" * 32, "FF" * 16 + "00" * 16): ("LooseBody", 0, 9, None),
+        runs.replace("8000", "8100"): ("BadBody", 0, 9, None),
+        runs.replace("0680", "0580"): ("BadBody", 0, 9, None),
+        runs + "00": ("Trailing", None, 15, None),
         whole + "00": ("Trailing", None, 44, None),
         whole[:-2]: ("Short", None, 43, None),
     }.items():

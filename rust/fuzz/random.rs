@@ -51,6 +51,11 @@ fn ids(numbers: &Numbers) -> Vec<u32> {
         let first = base.saturating_add(numbers.below(200_000) as u32).min(u32::MAX - 3000);
         ids.extend(first..first + numbers.of(&[5, 300, 3000]));
     }
+    // On both sides of the limits of a chunk of runs.
+    for run in 0..numbers.of(&[0, 0, 0, 31, 32, 33]) {
+        let first = base.min(u32::MAX - 20_000) + 400 * run;
+        ids.extend(first..first + numbers.of(&[15, 16, 17]));
+    }
     ids.into_iter().collect()
 }
 

@@ -25,8 +25,8 @@
 //!
 //! # Sizes
 //!
-//! A set of n ids takes at most `9 * n / 2 + 10` bytes. Of ids that share their high 16 bits each takes at most two bytes, and 65,536 consecutive
-//! ones take 257 bytes.
+//! A set of n ids takes at most `9 * n / 2 + 10` bytes. Of ids that share their high 16 bits each takes at most two bytes, and few runs of
+//! consecutive ones two bytes for each end of a run: 49 KB may hold 268,435,456 ids, so look at `len` before you unpack a set of others.
 //!
 //! # Memory
 //!

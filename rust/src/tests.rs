@@ -1,7 +1,9 @@
 //! Tests of what the crate adds to the proved code, and of both together.
 
 mod allocations;
+mod bitmap_blocks;
 mod chains;
+mod chunk_bounds;
 mod column_appending;
 mod column_bytes;
 mod column_model;

@@ -74,7 +74,7 @@ PROGRAMS = {
     "examples/ranked.c": "document 300: 166\ndocument 11: 133\ndocument 9: 100\n",
     CALLS: "all calls\n",
     # Each row of the tables that it is given.
-    ID_SETS: "360 sets, 2052 refusals, 102 pairs\n",
+    ID_SETS: "563 sets, 3031 refusals, 189 pairs\n",
     COLUMN_TABLES: "727 columns, 2605 refusals\n",
     RANKING: "all calls\n",
     RANDOM: "300 cases\n",

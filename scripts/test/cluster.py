@@ -75,7 +75,9 @@ def of_page(folder, interpreter):
         errors = file.read()[-3000:]
     for number, (command, wanted) in enumerate(shown):
         said = found[number] if number < len(found) - 1 else "nothing: an earlier one did not end"
-        yield f"{EXAMPLE}/README.md: {command}", None if said == wanted or number == len(shown) - 1 else f"it prints {said[-3000:]}, and all of them {errors}"
+        yield f"{EXAMPLE}/README.md: {command}", None if said == wanted or number == len(
+            shown
+        ) - 1 else f"it prints {said[-3000:]}, and all of them {errors}"
     yield "the commands of the page", None if len(shown) > 9 and page.count(">>> ") > 3 else f"there are {len(shown)}"
 
 

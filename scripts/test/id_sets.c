@@ -4,7 +4,7 @@
    and the package of Python test what queries find. Prints what is wrong, and last how many sets, refusals and pairs it read. */
 #include "bitpacking.h"
 
-enum { MOST = 270232, ROOM = BITPACKING_SET_ROOM(MOST + 1), SOME = 65, OPERANDS = 64 };
+enum { MOST = 320000, ROOM = BITPACKING_SET_ROOM(MOST + 1), SOME = 65, OPERANDS = 64 };
 
 typedef bitpacking_set view;
 typedef bitpacking_set_builder builder;

@@ -125,16 +125,15 @@ def varint(number):
 
 
 def long_set(first):
-    """The bytes of a set of ids of ten digits, as docs/FORMAT.md has them: 10,496 to 10,751 ids of one chunk, as `first` says, and 1,387 whole
-    chunks after it, to the greatest id."""
+    """The bytes of a set of ids of ten digits, as docs/FORMAT.md has them: the first ids of one chunk, as many as `first` says, and 1,387 whole
+    chunks after it, to the greatest id. Each is a run."""
     count = 1388
-    slices = [((1 << it) - 1).to_bytes(32, "little") for it in (42, first - 41 * 256)]
-    bodies = [bytes([41]) + slices[0] + bytes([255] * 41 + [first - 41 * 256 - 1]) + slices[1], *[b"\xff" * 257] * (count - 1)]
+    bodies = [b"\x01\xff\0\0" + first.to_bytes(2, "little"), *[b"\x01\xff\0\0"] * (count - 1)]
     sums = [first + 65536 * it for it in range(count)]
-    ends = [len(bodies[0]) + 257 * it for it in range(count)]
+    ends = [6 + 4 * it for it in range(count)]
     parts = [(65536 - count + it).to_bytes(2, "little") for it in range(count)]
-    parts += [it.to_bytes(3, "little") for it in ends] + [it.to_bytes(4, "little") for it in sums]
-    return b"\x05" + varint(sums[-1]) + varint(count) + b"\x43" + b"".join(parts + bodies)
+    parts += [it.to_bytes(2, "little") for it in ends] + [it.to_bytes(4, "little") for it in sums]
+    return b"\x05" + varint(sums[-1]) + varint(count) + b"\x42" + b"".join(parts + bodies)
 
 
 def longest(server):

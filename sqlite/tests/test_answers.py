@@ -49,9 +49,9 @@ ROUNDS = 420
 def drawn(dice):
     """A set of few or many ids, near to each other or far apart."""
     most = dice.choice([6, 300, 70_000, 2**32])
-    if dice.random() < 0.1:
-        start = dice.randrange(most)
-        return {id for id in range(start, start + 3000) if id < 2**32 and dice.random() < 0.9}
+    if dice.random() < 0.2:
+        start, share = dice.randrange(most), dice.choice([0.9, 0.99, 1])
+        return {id for id in range(start, start + 3000) if id < 2**32 and dice.random() < share}
     return {dice.randrange(most) for _ in range(dice.choice([0, 1, 5, 200]))}
 
 

@@ -17,12 +17,12 @@ def varint(number):
 
 
 def whole_chunks(first, count):
-    """The bytes of the set of all ids of some chunks, as docs/FORMAT.md has them: a chunk of 65,536 ids takes 257 bytes of 255."""
-    ends, sums = ([it * part for it in range(1, count + 1)] for part in (257, 65536))
+    """The bytes of the set of all ids of some chunks, as docs/FORMAT.md has them: a chunk of 65,536 ids is a run in 4 bytes."""
+    ends, sums = ([it * part for it in range(1, count + 1)] for part in (4, 65536))
     sizes = [(ends[-1].bit_length() + 7) // 8, (sums[-1].bit_length() + 7) // 8]
     parts = [(first + it).to_bytes(2, "little") for it in range(count)]
     parts += [it.to_bytes(size, "little") for its, size in zip([ends, sums], sizes) for it in its]
-    return b"\x05" + varint(sums[-1]) + varint(count) + bytes([sizes[0] + 16 * sizes[1]]) + b"".join(parts) + b"\xff" * ends[-1]
+    return b"\x05" + varint(sums[-1]) + varint(count) + bytes([sizes[0] + 16 * sizes[1]]) + b"".join(parts) + b"\x01\xff\0\0" * count
 
 
 def test_a_blob_of_500_megabytes(db):

@@ -162,8 +162,19 @@ def _body(body: bytes, count: int, m: int, at: int, before: int) -> None:
         numbers = integers(np.frombuffer(body, "u1").reshape(count, 2))
         _increasing(numbers, at, 2, before, m)
         need(_blocks_size(numbers) >= 2 * count, "LooseBody", at, m)
+    elif body[:2] == b"\x01\xff":
+        boundaries = integers(np.frombuffer(body, "u1", len(body) // 2 * 2).reshape(-1, 2))[1:].astype("i8")
+        gaps = np.diff(boundaries, append=1 << 16)
+        need(len(body) % 2 == 0 and (gaps > 0).all() and gaps[::2].sum() == count, "BadBody", at, m)
+        need(_are_runs(len(boundaries), count), "LooseBody", at, m)
     else:
-        need(_is_blocks(body, count), "BadBody", at, m)
+        found = _boundaries(body, count)
+        need(found, "BadBody", at, m)
+        need(not _are_runs(found, count), "LooseBody", at, m)
+
+
+def _are_runs(boundaries: int, count: int) -> bool:
+    return boundaries <= min(64, count // 8)
 
 
 def _size(count: int) -> int:
@@ -176,20 +187,32 @@ def _blocks_size(numbers: np.ndarray) -> int:
     return 1 + _size(len(counts)) + len(counts) + sum(map(_size, counts))
 
 
-def _is_blocks(body: bytes, count: int) -> bool:
+def _boundaries(body: bytes, count: int) -> int:
+    """How many boundaries the numbers of blocks have; 0 if the body has not so many numbers in blocks."""
     high = body[0] + 1
     at = 1 + _size(high)
     counts = [it + 1 for it in body[at : at + high]]
     if len(counts) < high or sum(counts) != count or len(body) != at + high + sum(map(_size, counts)):
-        return False
+        return 0
     at, starts = at + high, [1]
     for it in counts:
         starts.append(at)
         at += _size(it)
-    return all(_is_slice(body[start : start + _size(it)], it) for start, it in zip(starts, [high, *counts]))
+    slices = [_bits(body[start : start + _size(it)], it) for start, it in zip(starts, [high, *counts])]
+    if not all(slices):
+        return 0
+    found, after, last = 0, 0, 0  # `last` is 1 if the number before the next slice is there
+    for it, bits in zip((it for it in range(256) if slices[0] >> it & 1), slices[1:]):
+        if it > after:
+            found, last = found + last, 0
+        found += (bits ^ (bits << 1 | last) % (1 << 256)).bit_count()
+        after, last = it + 1, bits >> 255
+    return found + last * (after < 256)
 
 
-def _is_slice(part: bytes, count: int) -> bool:
+def _bits(part: bytes, count: int) -> int:
+    """The bits of a slice; 0 if it does not have so many bytes."""
     if count < 32:
-        return all(one < other for one, other in zip(part, part[1:]))
-    return count == 256 or int.from_bytes(part, "little").bit_count() == count
+        return sum(1 << it for it in part) if all(one < other for one, other in zip(part, part[1:])) else 0
+    bits = int.from_bytes(part, "little") if count < 256 else (1 << 256) - 1
+    return bits if bits.bit_count() == count else 0

@@ -88,9 +88,10 @@ fn spread(len: u32, step: u32) -> IdSetBuf {
     (0..len).map(|k| k * step).collect()
 }
 
-/// Sets of all forms: of no ids, few ids, an array, numbers, blocks, numbers in many chunks, and half of all ids of two chunks.
-fn sets() -> [IdSetBuf; 7] {
-    [(0, 1), (100, 7), (400, 1 << 20), (1000, 300), (5000, 3), (6000, 9001), (2 << 15, 2)].map(|(len, step)| spread(len, step))
+/// Sets of all forms: of no ids, few ids, an array, numbers, blocks, numbers in many chunks, half of all ids of two chunks, and runs.
+fn sets() -> [IdSetBuf; 8] {
+    [(0, 1), (100, 7), (400, 1 << 20), (1000, 300), (5000, 3), (6000, 9001), (2 << 15, 2), (100_000, 1)]
+        .map(|(len, step)| spread(len, step))
 }
 
 fn columns() -> Vec<ColumnBuf> {

@@ -27,7 +27,7 @@ impl Numbers {
 }
 
 /// How many forms [`some_ids`] has.
-pub(super) const FORMS: u32 = 10;
+pub(super) const FORMS: u32 = 11;
 
 /// Ids of a form, sometimes with one of the ends.
 pub(super) fn some_ids(numbers: &mut Numbers, form: u32) -> Model {
@@ -49,6 +49,12 @@ pub(super) fn some_ids(numbers: &mut Numbers, form: u32) -> Model {
             for _ in 0..20 {
                 let (from, len) = (base + numbers.below(190_000), 1 + numbers.below(700));
                 ids.extend((0..len).map(|k| from + k));
+            }
+        }
+        // About 64 boundaries, and about 8 ids for each.
+        9 => {
+            for run in 0..30 + numbers.below(5) {
+                ids.extend((0..14 + numbers.below(5)).map(|k| base + 300 * run + k));
             }
         }
         _ => ids.extend((0..66_000).map(|k| base / 65_536 * 65_536 + k)),

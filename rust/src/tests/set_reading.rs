@@ -61,8 +61,7 @@ fn sets_of_each_form() {
 /// Sets worked by hand, as docs/FORMAT.md works some.
 #[test]
 fn worked_bytes() {
-    let (ones, zeros) = ("{ff*16}", "{00*16}");
-    let rows: [(Vec<u32>, &str); 14] = [
+    let rows: [(Vec<u32>, &str); 19] = [
         (vec![], "80"),
         (vec![5], "8105"),
         (vec![u32::MAX], "81FFFFFFFF0F"),
@@ -71,19 +70,27 @@ fn worked_bytes() {
         ((0..=32).collect(), "A10000"),
         ((0..=33).collect(), "A2000000"),
         ((0..=68).step_by(2).collect(), "A30001FFFFFFFF0103"),
-        ((0..=127).collect(), "0580010111000023800000 7F ONES ZEROS"),
+        ((0..=127).collect(), "0580010111000006 80 01FF 0000 8000"),
         ((0..=254).step_by(2).collect(), "0580010111000023800000 7F {55*32}"),
-        ((0..=255).collect(), "058002012100000300010000FF"),
-        ((0..=65_535).collect(), "0580800401320000010100 0001 {ff*257}"),
-        ((65_530..=65_657).collect(), "05800102110000 0100092C0680 00FF05FAFBFCFDFEFF 000079 {ff*15}03 ZEROS"),
+        ((0..=255).collect(), "0580020121000006 0001 01FF 0000 0001"),
+        ((0..=65_535).collect(), "058080040131000004 000001 01FF 0000"),
+        ((100..=9999).collect(), "05AC4D0121000006 AC26 01FF 6400 1027"),
+        ((60_000..=65_535).collect(), "05A02B0121000004 A015 01FF 60EA"),
+        ((65_504..=65_631).collect(), "05800102110000 0100040A2080 01FF E0FF 01FF 0000 6000"),
+        ((65_530..=65_657).collect(), "05800102110000 0100090F0680 00FF05FAFBFCFDFEFF 01FF 0000 7A00"),
+        ((0..=999).chain(2000..=2999).chain(3001..=65_535).collect(), "0597F803012100000C 17FC 01FF 0000 E803 D007 B80B B90B"),
         (
-            (0..=30).chain(256..=352).collect(),
-            "05800101110000 4480 0100011E60 000102030405060708090A0B0C0D0E0F101112131415161718191A1B1C1D1E {ff*12}01{00*19}",
+            (0..300_000).collect(),
+            "05E0A7120531 00000100020003000400 04080C1016 000001000002000003000004E09304 01FF0000 01FF0000 01FF0000 01FF0000 01FF0000E093",
+        ),
+        (
+            (0..=60).step_by(2).chain((256..=448).step_by(2)).collect(),
+            "05800101110000 4480 0100011E60 00020406080A0C0E10121416181A1C1E20222426282A2C2E30323436383A3C {55*24}01{00*7}",
         ),
     ];
     for (ids, field) in rows {
         let set = IdSetBuf::pack(&ids).unwrap();
-        let field = field.replace("ONES", ones).replace("ZEROS", zeros).replace(' ', "");
+        let field = field.replace(' ', "");
         assert_eq!(set.as_bytes(), bytes_of(&field), "{field}");
         assert_eq!(IdSet::open(set.as_bytes()).unwrap().unpack(), ids);
     }
@@ -113,7 +120,7 @@ fn worked_bytes_that_count() {
 #[test]
 fn each_set_of_the_vectors() {
     let rows = rows("id_sets");
-    assert_eq!(rows.len(), 360);
+    assert_eq!(rows.len(), 563);
     for row in rows {
         let (ids, bytes) = (ids_of(&row[0]), bytes_of(&row[1]));
         assert_eq!(packed_len(&ids), Ok(bytes.len()));
@@ -134,7 +141,7 @@ fn each_set_of_the_vectors() {
 #[test]
 fn refused_bytes() {
     let rows = rows("refused_id_sets");
-    assert_eq!(rows.len(), 2052);
+    assert_eq!(rows.len(), 3031);
     for row in rows {
         let bytes = bytes_of(&row[2]);
         let numbers = [
@@ -170,6 +177,8 @@ fn worked_faults() {
         ("0580010112000000 0080", Error::BadOffset(0)),
         ("0580010112000023 0080", Error::BadSizes(18)),
         ("058001011100 0023 7F", Error::BadSum(0)),
+        ("058080040131000004000001 01FF 0100", Error::BadBody(0)),
+        ("058002012100000300010000FF", Error::LooseBody(0)),
     ] {
         assert_eq!(IdSet::open(&bytes_of(&field.replace(' ', ""))).err(), Some(error), "{field}");
     }
@@ -193,12 +202,12 @@ fn many_opened() {
 
 /// A set of 2^28 ids, in 4,096 full chunks from a key on: the longest one.
 pub(super) fn longest(first_key: u16) -> Vec<u8> {
-    let mut bytes = vec![5, 0x80, 0x80, 0x80, 0x80, 0x01, 0x80, 0x20, 0x43];
+    let mut bytes = vec![5, 0x80, 0x80, 0x80, 0x80, 0x01, 0x80, 0x20, 0x42];
     let chunks = 4096;
     bytes.extend((0..chunks).flat_map(|chunk| (first_key + chunk as u16).to_le_bytes()));
-    bytes.extend((1..=chunks).flat_map(|chunk: u32| (257 * chunk).to_le_bytes().into_iter().take(3)));
+    bytes.extend((1..=chunks).flat_map(|chunk: u32| (4 * chunk as u16).to_le_bytes()));
     bytes.extend((1..=chunks).flat_map(|chunk: u32| (65_536 * chunk).to_le_bytes()));
-    bytes.resize(bytes.len() + 257 * chunks as usize, 0xFF);
+    bytes.extend([1, 0xFF, 0, 0].repeat(chunks as usize));
     bytes
 }
 
