@@ -17,6 +17,7 @@ pub mod PartialLaws
 pub mod PartsJoin
 pub mod ReadLaws
 pub mod RunBodies
+pub mod RunBounds
 pub mod RunLaws
 pub mod TestLaws
 pub mod WorkedBounds

@@ -5,7 +5,7 @@ use Rattle.std.specs.List.{range_with_len}
 use Rattle.std.proofs.Math.Bool.{beq}
 use Rattle.std.proofs.lemmas.Bool.{cases_lt, le-leb, le-ltb, lt-ltb}
 use Rattle.std.proofs.lemmas.Bool.Decides.{eqb_tells, leb_tells}
-use Rattle.std.proofs.lemmas.List.{append-nil, drop_more}
+use Rattle.std.proofs.lemmas.List.{append-nil, drop_all, drop_more}
 use Rattle.bitpack_slices.proofs.lemmas.bits.RaisedLaws.{rising_append}
 use Rattle.bitpack_slices.proofs.lemmas.bodies.LoadLaws.{those_are}
 use Rattle.bitpack_slices.proofs.lemmas.bodies.RunLaws.{has_run, runs_rise}
@@ -105,14 +105,8 @@ from_next bounds i low next r more top = elim (cases_lt i (length bounds)) [
       let split = drop_more bounds i 65536 some in
       let (a, later) = subst (IsRising low 65536) split r in
       subst (IsRising next 65536) (sym split) (more some, later))
-  | inr none ↦ subst (IsRising next 65536) (sym (drop_none i bounds none)) top
+  | inr none ↦ subst (IsRising next 65536) (sym (drop_all i bounds none)) top
 ]
-  where
-    drop_none : (i : ℕ) (xs : List ℕ) → length xs ≤ i → drop i xs ≡ []
-    drop_none zero [] h = refl
-    drop_none zero (x ∷ xs) h = absurd (omega arith)
-    drop_none (suc i) [] h = refl
-    drop_none (suc i) (x ∷ xs) h = drop_none i xs (omega arith)
 
 -- the next boundary is not above y
 pub side_between : (bounds : List ℕ) (i : ℕ) (p : Bool) (low next y : ℕ) → Side bounds i p low → (i < length bounds → next ≤ get_or bounds i 65536) → next ≤ 65536 → low ≤ y → y < next → inside bounds y ≡ p

@@ -233,7 +233,7 @@ rank_all x low (suc n) h l = elim (cases_lt low x) [
 apart_below : (a b : ℕ) → a < b → a ≡ b → ⊥
 apart_below a b h e = omega arith
 
-or_assoc : (a b c : Bool) → (a || (b || c)) ≡ ((a || b) || c)
+pub or_assoc : (a b c : Bool) → (a || (b || c)) ≡ ((a || b) || c)
 or_assoc true b c = refl
 or_assoc false b c = refl
 

@@ -2,7 +2,7 @@
 use Rattle.std.proofs.Common.{◌≡◌, ◌+◌, ◌-◌, ◌%◌, ◌<◌, ◌≤◌, ◌++◌, ◌∷◌, ◌∙◌, [], Bool, List, ap, arith, cond, drop, get_or, length, length-append, length-set, ltb, map, set, sym, take, ℕ}
 use Rattle.std.proofs.lemmas.Bool.{le-ltb, lt-ltb}
 use Rattle.std.proofs.lemmas.List.{append-nil, get_or-map, length-map, length-take-le, take_all, take_more_set}
-use Rattle.bitpack_slices.proofs.lemmas.bodies.RunLaws.{bounds_apart, bounds_begin, bounds_ended, bounds_same, some_bounds, two_written}
+use Rattle.bitpack_slices.proofs.lemmas.bodies.RunBounds.{bounds_apart, bounds_begin, bounds_ended, bounds_same, some_bounds, two_written}
 use Rattle.bitpack_slices.proofs.chunk.writing.fill_bounds.Goals as goal
 use Rattle.bitpack_slices.proofs.chunk.writing.fill_bounds.Goals.{then-low-after, else-low-after}
 use Rattle.bitpack_slices.specs.Runs.{boundaries, bounds_after}
