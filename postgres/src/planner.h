@@ -51,7 +51,7 @@ PGFunction address_of(Oid function);
 bool is_set(Node *node);
 double ids_of(PlannerInfo *root, Node *node);
 
-/* selectivity.c: estimates the share of rows, or of pairs of rows, for which a function is true. Returns -1 if it does not know the function. */
+/* selectivity.c: estimates the share of rows, or of pairs of rows, that make a function true. Returns -1 if it does not know the function. */
 double share_of_rows(PlannerInfo *root, Oid function, List *args, int relation);
 
 #pragma GCC visibility pop

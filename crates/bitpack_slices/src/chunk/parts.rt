@@ -40,7 +40,7 @@ impl<'a> Parts<'a> {
         requires { IsBlocks (length (block_numbers body.now)) body.now }
         ensures numbers { numbers_in_parts result ≡ block_numbers body.now }
         ensures counted { numbers_in result.counts.now ≡ length (block_numbers body.now) }
-        // The slices end where the body ends.
+        // The slices are the last bytes of the body.
         ensures within { length result.slices.now ≤ length body.now }
         ensures end { drop (length body.now - length result.slices.now) body.now ≡ result.slices.now }
     {

@@ -1,4 +1,4 @@
-//! Bodies of runs: where the runs of a chunk begin and end.
+//! Bodies of runs: the boundaries of the runs of a chunk.
 //!
 //! FORMAT.md, "Chunks":
 //!
@@ -30,7 +30,7 @@ pub fn begins_runs(body: &[u8]) -> bool
 /// The boundaries of a body of runs, which were tested.
 #[derive(Clone, Copy)]
 pub struct Runs<'a> {
-    // Two bytes each: where a run begins, the first number after it, and so on. The last run may have no end.
+    // Two bytes each: the first number of a run, the first number after it, and so on. The last run may have no end.
     pub(crate) bounds: &'a [u8],
     ghost rising: { IsRising 0 65536 (pairs_of bounds.now) } by { Prim.hlevel (props, rising_prop) },
 }

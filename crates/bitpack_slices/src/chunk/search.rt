@@ -87,7 +87,7 @@ pub(crate) fn slice_of(counts: &[u8], position: usize) -> (usize, usize)
     (index, left)
 }
 
-/// The index where a slice begins among slices end to end. Each count less 1 is given.
+/// The index of the first byte of a slice among slices end to end. Each count less 1 is given.
 pub(crate) fn offset_of_slice(counts: &[u8], index: usize) -> usize
     requires within { index ≤ length counts.now }
     requires few { length counts.now ≤ 256 }
