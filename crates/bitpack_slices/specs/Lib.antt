@@ -12,4 +12,5 @@ pub mod Runs
 pub mod Reads
 pub mod Selections
 pub mod Bodies
+pub mod Body
 pub mod Slices

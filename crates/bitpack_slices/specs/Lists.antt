@@ -24,6 +24,12 @@ OfKey key (Ids list) = listed_ids list ≡ map (λ low. key * 65536 + low) (map 
 OfKey key (Blocks body) = IsBlocks (length (block_numbers body.now)) body.now
 OfKey key (Runs runs) = 0 < length (runs_from 0 runs.bounds.now)
 
+-- its bytes are such a body
+abbrev pub IsBody : Body → Type 0
+IsBody (Ids list) = Unit {0}
+IsBody (Blocks body) = IsBlocks (length (block_numbers body.now)) body.now
+IsBody (Runs runs) = Unit {0}
+
 -- whether numbers have the low 16 bits of an id, or whether they lack them
 abbrev pub retains : Bool → List ℕ → ℕ → Bool
 retains there numbers id = if there then has (id % 65536) numbers else not (has (id % 65536) numbers)

@@ -1,8 +1,9 @@
 //! The ids of a key in a set: a list of them, a body of blocks, or runs.
 //! FORMAT.md, "Chunks".
 
+pub mod bits;
 pub(crate) mod mixing;
-pub(crate) mod runs;
+pub mod runs;
 
 ghost use Rattle.std.specs.Prelude.{◌+◌, ◌*◌, ◌%◌, ◌^◌, ◌<◌, ◌≤◌, length, map};
 ghost use Rattle.std.specs.List.{filter};

@@ -68,6 +68,12 @@ impl<'a> Listed<'a> {
         }
     }
 
+    /// How many bytes they have.
+    #[inline(always)]
+    pub(crate) fn bytes_len(&self) -> usize {
+        self.bytes.len()
+    }
+
     /// The id at a position.
     #[inline(always)]
     pub(crate) fn at(&self, position: usize) -> u32

@@ -5,6 +5,7 @@ pub mod BitmapLaws
 pub mod ByteLaws
 pub mod CombineLaws
 pub mod CountLaws
+pub mod EachLaws
 pub mod FourLaws
 pub mod HighLaws
 pub mod IncreaseLaws

@@ -5,6 +5,7 @@ pub mod BodyFaults
 pub mod BoundLaws
 pub mod BoundSlices
 pub mod BuildLaws
+pub mod ChangeLaws
 pub mod CutLaws
 pub mod JoinLaws
 pub mod LoadLaws
@@ -12,6 +13,7 @@ pub mod LongLaws
 pub mod MergeRuns
 pub mod MixLaws
 pub mod OneBlocks
+pub mod OneBody
 pub mod PartLaws
 pub mod PartialLaws
 pub mod PartsJoin
@@ -19,5 +21,6 @@ pub mod ReadLaws
 pub mod RunBodies
 pub mod RunBounds
 pub mod RunLaws
+pub mod SetLaws
 pub mod TestLaws
 pub mod WorkedBounds

@@ -1,12 +1,15 @@
 //! Combines two bodies of runs.
 
-ghost use Rattle.std.specs.Prelude.{◌≡◌, ◌+◌, ◌*◌, ◌/◌, ◌^◌, ◌<◌, ◌≤◌, length, map, slice_index_or, take};
+ghost use Rattle.std.specs.Prelude.{◌≡◌, ◌+◌, ◌*◌, ◌/◌, ◌^◌, ◌<◌, ◌≤◌, IfSome, length, map, slice_index_or, take};
 ghost use Rattle.bitpack_slices.specs.Bodies.{IsRising};
+ghost use Rattle.bitpack_slices.specs.Body.{body};
 ghost use Rattle.bitpack_slices.specs.Follows.{Follow};
 ghost use Rattle.bitpack_slices.specs.Operations.{combined};
-ghost use Rattle.bitpack_slices.specs.Runs.{runs_from};
+ghost use Rattle.bitpack_slices.specs.Runs.{runs, runs_from};
 ghost use Rattle.bitpack_slices.specs.Slices.{pairs_of};
 
+use crate::bitmap::writing::LONGEST_BLOCKS;
+use crate::chunk::bounds::most_bounds;
 use crate::chunk::runs::Runs;
 use crate::chunk::search::number_at;
 use crate::operation::Operation;
@@ -41,6 +44,50 @@ pub(crate) fn combine_both(
     }
     both.unpack_from(key * 65536, 0, &mut out[at..at + len]);
     at + len
+}
+
+/// Writes the body of the numbers that an operation on two bodies of runs gives, if it is runs too. Returns how many numbers it has, and how many
+/// bytes, or `None` if it is no runs.
+pub fn write_both(
+    operation: Operation,
+    a: Runs,
+    b: Runs,
+    out: &mut [u8; LONGEST_BLOCKS],
+) -> Option<(usize, usize)>
+    ensures count { IfSome result (λ written. written.0 ≡ length (combined 65536 operation (runs_from 0 a.entry.bounds.now) (runs_from 0 b.entry.bounds.now))) }
+    ensures small { IfSome result (λ written. (written.1 ≤ 2 * written.0) × (written.1 ≤ 8449)) }
+    ensures body { IfSome result (λ written. 0 < written.0 → take written.1 out.new
+        ≡ body (combined 65536 operation (runs_from 0 a.entry.bounds.now) (runs_from 0 b.entry.bounds.now))) }
+{
+    if a.bounds.len() / 2 + b.bounds.len() / 2 > MOST_BOTH {
+        return None;
+    }
+    let mut room = [0; 2 * MOST_BOTH];
+    let bounds = merge_bounds(operation, a.bounds, b.bounds, &mut room);
+    let both = Runs {
+        bounds: &room[..2 * bounds],
+    };
+    let count = both.len();
+    if count == 0 {
+        return Some((0, 0));
+    }
+    if bounds > most_bounds(count) {
+        return None;
+    }
+    put_runs(both.bounds, out);
+    Some((count, 2 + 2 * bounds))
+}
+
+/// Writes the runs with these boundaries, two bytes each.
+#[inline(always)]
+fn put_runs(bounds: &[u8], out: &mut [u8; LONGEST_BLOCKS])
+    requires few { length bounds.now ≤ 256 }
+    requires pairs { length bounds.now ≡ 2 * length (pairs_of bounds.now) }
+    ensures { take (2 + length bounds.now) out.new ≡ runs (pairs_of bounds.now) }
+{
+    out[0] = 1;
+    out[1] = 255;
+    out[2..2 + bounds.len()].copy_from_slice(bounds);
 }
 
 /// Writes the boundaries of what an operation on runs gives, two bytes each. Returns how many there are.

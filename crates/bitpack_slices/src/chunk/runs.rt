@@ -36,7 +36,7 @@ pub struct Runs<'a> {
 }
 
 impl<'a> Runs<'a> {
-    ghost use Rattle.std.specs.Prelude.{◌+◌, ◌-◌, ◌*◌, ◌/◌, ◌^◌, ◌<◌, ◌++◌, drop, map, slice_index, take, true};
+    ghost use Rattle.std.specs.Prelude.{◌+◌, ◌-◌, ◌*◌, ◌/◌, ◌^◌, ◌<◌, ◌++◌, ◌||◌, drop, map, slice_index, take, true};
     ghost use Rattle.std.specs.List.{range_with_len};
     ghost use Rattle.bitpack_slices.specs.Bitmaps.{Represents, has_bit, has_high};
     ghost use Rattle.bitpack_slices.specs.Slices.{IsBlocks, block_numbers};
@@ -160,6 +160,13 @@ impl<'a> Runs<'a> {
         ensures { Represents highs.now words.new (runs_from 0 self.entry.bounds.now) }
     {
         clear(highs, words);
+        self.set_bits(words);
+    }
+
+    /// Sets the bit of each number.
+    pub(crate) fn set_bits(self, words: &mut [u64; 1024])
+        ensures { (x : ℕ) → x < 65536 → has_bit words.new x ≡ (has x (runs_from 0 self.entry.bounds.now) || has_bit words.old x) }
+    {
         for index in 0..self.count() {
             let (begin, end) = self.run(index);
             set_range(words, begin, end);
@@ -194,10 +201,7 @@ impl<'a> Runs<'a> {
         ensures numbers { block_numbers (take result out.new) ≡ runs_from 0 self.entry.bounds.now }
     {
         let mut words = [0; 1024];
-        for index in 0..self.count() {
-            let (begin, end) = self.run(index);
-            set_range(&mut words, begin, end);
-        }
+        self.set_bits(&mut words);
         write_blocks(&words, out)
     }
 }

@@ -25,6 +25,14 @@ pub fn write_runs(ids: &[u32], out: &mut [u8])
     let mut room = [0; MOST_BOUNDS];
     let bounds = &mut room[..(out.len() - 2) / 2];
     fill_bounds(ids, bounds);
+    write_bounds(bounds, out);
+}
+
+/// Writes the runs with these boundaries.
+pub(crate) fn write_bounds(bounds: &[u32], out: &mut [u8])
+    requires size { length out.old ≡ 2 + 2 * length bounds.now }
+    ensures { out.new ≡ runs bounds.now }
+{
     let (head, rest) = out.split_at_mut(2);
     head[0] = 1;
     head[1] = 255;

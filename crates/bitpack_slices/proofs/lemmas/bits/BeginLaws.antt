@@ -38,12 +38,12 @@ or_no false c h = h
 abbrev pub bits_before : ℕ → Bool → ℕ
 bits_before word before = bit_or (word * 2 ^ 1 % 2 ^ 64) (bool_byte before)
 
-before_first : (word : ℕ) (before : Bool) → eqb (bit_at (bits_before word before) 0) 1 ≡ before
+pub before_first : (word : ℕ) (before : Bool) → eqb (bit_at (bits_before word before) 0) 1 ≡ before
 before_first word before =
     let none : bit_at (word * 2 ^ 1 % 2 ^ 64) 0 ≡ 0 = bit_at_lowest (word * 2 ^ 1 % 2 ^ 64) ∙ omega arith in
     word_or (word * 2 ^ 1 % 2 ^ 64) (bool_byte before) 0 ∙ ap (λ (n : ℕ). eqb n 1 || eqb (bit_at (bool_byte before) 0) 1) none ∙ carry_first before
 
-before_later : (word i : ℕ) (before : Bool) → i < 63 → eqb (bit_at (bits_before word before) (i + 1)) 1 ≡ eqb (bit_at word i) 1
+pub before_later : (word i : ℕ) (before : Bool) → i < 63 → eqb (bit_at (bits_before word before) (i + 1)) 1 ≡ eqb (bit_at word i) 1
 before_later word i before lt =
     let none : bit_at (bool_byte before) (i + 1) ≡ 0 = bit_at_above (bool_byte before) 1 (i + 1) (carry_small before) (omega arith) in
     word_or (word * 2 ^ 1 % 2 ^ 64) (bool_byte before) (i + 1)

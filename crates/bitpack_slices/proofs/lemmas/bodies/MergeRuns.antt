@@ -32,7 +32,7 @@ inside (b ∷ bs) x = cond (leb b x) (not (inside bs x)) (inside bs x)
 leb_above : (a b : ℕ) → b < a → leb a b ≡ false
 leb_above a b h = elim (leb_tells a b) [ inl (e, l) ↦ absurd (omega arith) | inr (e, l) ↦ e ]
 
-inside_below : (low high x : ℕ) (bs : List ℕ) → IsRising low high bs → x < low → inside bs x ≡ false
+pub inside_below : (low high x : ℕ) (bs : List ℕ) → IsRising low high bs → x < low → inside bs x ≡ false
 inside_below low high x [] r h = refl
 inside_below low high x (b ∷ bs) (a, r) h = ap (λ (t : Bool). cond t (not (inside bs x)) (inside bs x)) (leb_above b x (omega arith)) ∙ inside_below (b + 1) high x bs r (omega arith)
 
