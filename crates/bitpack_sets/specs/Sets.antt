@@ -4,20 +4,13 @@ use Rattle.std.specs.List.{concat, flat_map}
 pub use Rattle.bitpack_groups.specs.Packed.{least_width}
 unfoldable pub use Rattle.bitpack_groups.specs.Packed.{group, groups, packed, width_from}
 use Rattle.bitpack_sets.specs.Varints.{byte_count, groups_of, number}
-use Rattle.bitpack_slices.specs.Bodies.{IsRising, blocks, le_bytes, numbers, parts}
-use Rattle.bitpack_slices.specs.Runs.{are_few, boundaries, runs}
+use Rattle.bitpack_slices.specs.Bodies.{IsRising, le_bytes, parts}
+unfoldable pub use Rattle.bitpack_slices.specs.Body.{body}
 
 -- the list is a set of ids
 pub record IsSet (ids : List ℕ) : Type 0 where
   pub few : length ids ≤ 2 ^ 28
   pub rising : IsRising 0 (2 ^ 32) ids
-
--- the body of a chunk of numbers below 2 ^ 16
-unfoldable pub body : List ℕ → List ℕ
-body chunk =
-    if are_few (length (boundaries chunk)) (length chunk) then runs (boundaries chunk)
-    else if nat_lt (length (blocks chunk)) (2 * length chunk) then blocks chunk
-    else numbers chunk
 
 -- ---- the encoding of 128 ids or more: in chunks, or an array of ids that lie far apart
 

@@ -125,6 +125,10 @@ last_chunk ids = filter (λ x. x / 65536 == slice_index ids (length ids - 1) / 6
 abbrev pub is_in_chunks : List ℕ → Bool
 is_in_chunks ids = slice_index (encoding ids) 0 == 5
 
+-- the chunks of a set in chunks, or the ids of another
+abbrev pub places : List ℕ → ℕ
+places ids = if is_in_chunks ids then length (parts (2 ^ 16) ids) else length ids
+
 -- how many ids an append needs work space for: those that follow, and of the set all, or those in its last chunk if it is in chunks and stays so
 abbrev pub unpacked : List ℕ → List ℕ → ℕ
 unpacked ids more = length (if is_in_chunks ids && is_in_chunks (ids ++ more) then last_chunk ids else ids) + length more

@@ -45,11 +45,13 @@ impl<'a> Chunks<'a> {
     ghost use Rattle.bitpack_slices.specs.Lows.{AreLows, lows};
     ghost use Rattle.bitpack_slices.specs.Lists.{OfKey, body_lows, listed_ids};
     ghost use Rattle.bitpack_sets.specs.Pairs.{IsSpan};
+    ghost use Rattle.bitpack_sets.specs.Sets.{body};
     ghost use Rattle.bitpack_slices.specs.Reads.{has};
 
     /// The chunks of a set in chunks.
     pub(crate) fn new(directory: Directory<'a>) -> Chunks<'a>
-        ensures { ids_from result 0 ≡ directory_ids directory.entry }
+        ensures ids { ids_from result 0 ≡ directory_ids directory.entry }
+        ensures places { positions result ≡ directory.entry.chunks }
     {
         Chunks {
             count: directory.chunks,
@@ -61,7 +63,8 @@ impl<'a> Chunks<'a> {
     /// The chunks of ids of four bytes.
     pub(crate) fn of_array(rest: &'a [u8]) -> Chunks<'a>
         requires { IsRising 0 (2 ^ 32) (quads_of rest.now) }
-        ensures { ids_from result 0 ≡ quads_of rest.now }
+        ensures ids { ids_from result 0 ≡ quads_of rest.now }
+        ensures places { positions result ≡ length (quads_of rest.now) }
     {
         Chunks {
             count: 0,
@@ -88,7 +91,7 @@ impl<'a> Chunks<'a> {
 
     /// The position after the last.
     #[inline(always)]
-    fn len(&self) -> usize
+    pub fn len(&self) -> usize
         ensures { result ≡ positions self.now }
     {
         if self.count == 0 {
@@ -226,6 +229,28 @@ impl<'a> Chunks<'a> {
             Lows::Blocks(body) => Body::Blocks(body),
             Lows::Runs(runs) => Body::Runs(runs),
         }
+    }
+
+    /// How many ids a chunk has, and its body, if the set is in chunks.
+    #[inline(always)]
+    pub fn coded(&self, position: usize) -> Option<(usize, &'a [u8])>
+        requires within { position < positions self.now }
+        ensures chunks { IfSome result (λ _. self.now.count ≢ 0) }
+        ensures some { IfSome result (λ coded. 0 < coded.0) }
+        ensures rising { IfSome result (λ _. IsRising 0 65536 (lows_between self.now position (position + 1))) }
+        ensures small { IfSome result (λ coded. length coded.1.now ≤ 2 * coded.0) }
+        ensures count { IfSome result (λ coded. coded.0 ≡ length (lows_between self.now position (position + 1))) }
+        ensures body { IfSome result (λ coded. coded.1.now ≡ body (lows_between self.now position (position + 1))) }
+    {
+        if self.count == 0 {
+            return None;
+        }
+        let directory = Directory {
+            count: self.ids,
+            chunks: self.count,
+            rest: self.rest,
+        };
+        Some((directory.count_of(position), directory.body(position)))
     }
 
     /// All ids, if the set is not in chunks.

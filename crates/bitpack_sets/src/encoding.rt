@@ -6,9 +6,11 @@ ghost use Rattle.bitpack_sets.specs.Sets.{IsSet, encoding};
 ghost use Rattle.bitpack_sets.specs.Written.{Appends, AppendsWith, IsMeasured, MeasuresSet, WritesSet};
 
 mod bodies;
-pub(crate) mod chunks;
+pub mod chunks;
+pub mod combining;
 pub(crate) mod copying;
 mod few;
+pub mod gathered;
 mod measuring;
 pub mod order;
 mod runs;

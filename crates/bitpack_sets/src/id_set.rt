@@ -32,14 +32,15 @@ pub struct IdSet<'a> {
 }
 
 impl<'a> IdSet<'a> {
-    ghost use Rattle.std.specs.Prelude.{◌↔◌, ◌+◌, ◌<◌, ◌++◌, IsTrue, [], drop, length, take, vec_capacity, vec_len, IfErr, IfOk, None, OnErr, OnOk, ◌-◌, min, IfSome, IsNone, MatchOption, false, Some, slice_get, slice_index};
-    ghost use Rattle.bitpack_sets.specs.Chunks.{ids_from};
+    ghost use Rattle.std.specs.Prelude.{◌↔◌, ◌^◌, ◌+◌, ◌<◌, ◌++◌, IsTrue, [], drop, length, take, vec_capacity, vec_len, IfErr, IfOk, None, OnErr, OnOk, ◌-◌, min, IfSome, IsNone, MatchOption, false, Some, slice_get, slice_index};
+    ghost use Rattle.bitpack_sets.specs.Chunks.{ids_from, positions};
     ghost use Rattle.bitpack_slices.specs.Errors.{Finds};
     ghost use Rattle.bitpack_sets.specs.Faults.{fault};
     ghost use Rattle.bitpack_sets.specs.Opened.{encoding_of, ids};
     ghost use Rattle.bitpack_slices.specs.Reads.{has, rank};
     ghost use Rattle.bitpack_sets.specs.Rooms.{StoresFew};
     ghost use Rattle.bitpack_sets.specs.Sets.{IsSet, encoding};
+    ghost use Rattle.bitpack_sets.specs.Written.{places};
 
     /// Opens an encoded set. Tests all bytes, accepts any, and allocates nothing.
     pub fn open(bytes: &'a [u8]) -> Result<IdSet<'a>, SetError>
@@ -104,6 +105,17 @@ impl<'a> IdSet<'a> {
         ensures { result ≡ length (ids self.now) }
     {
         self.count
+    }
+
+    /// How many chunks a set in chunks has, or how many ids another set.
+    pub fn places(&self) -> usize
+        ensures places { result ≡ places (ids self.now) }
+        ensures few { result ≤ 2 ^ 28 }
+    {
+        match self.form() {
+            Form::Chunks(directory) => directory.chunks,
+            _ => self.count,
+        }
     }
 
     /// Whether there is no id.
@@ -236,7 +248,8 @@ impl<'a> IdSet<'a> {
     /// The chunks of the set. Its room was filled before.
     pub(crate) fn filled_chunks<'b>(&'b self, room: &'b [u8; ROOM]) -> Chunks<'b>
         requires { StoresFew self.now room.now }
-        ensures { ids_from result 0 ≡ ids self.now }
+        ensures ids { ids_from result 0 ≡ ids self.now }
+        ensures places { positions result ≡ places (ids self.now) }
     {
         match self.form() {
             Form::Few(few) => Chunks::of_array(&room[..4 * few.count]),

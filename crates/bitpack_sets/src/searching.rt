@@ -112,7 +112,7 @@ impl<'a> Directory<'a> {
 
     /// The body of a chunk.
     #[inline(always)]
-    fn body(self, chunk: usize) -> &'a [u8]
+    pub(crate) fn body(self, chunk: usize) -> &'a [u8]
         requires within { chunk < self.chunks }
         ensures { result.now ≡ body_at self.entry.chunks self.entry.rest.now chunk }
     {

@@ -6,5 +6,6 @@ pub mod EncodeLaws
 pub mod EncodingLaws
 pub mod FewLaws
 pub mod LongLaws
+pub mod PlaceLaws
 pub mod RoomLaws
 pub mod ShortLaws

@@ -24,7 +24,7 @@ pub(crate) fn array_len(count: usize) -> usize
 }
 
 /// How many bytes the encoding of `count` ids in chunks has, if the bodies have `size` bytes.
-pub(crate) fn chunks_len(count: usize, chunks: usize, size: usize) -> usize
+pub fn chunks_len(count: usize, chunks: usize, size: usize) -> usize
     requires count { count ≤ 2 ^ 28 }
     requires chunks { chunks ≤ count }
     requires size { size ≤ 2 * count }

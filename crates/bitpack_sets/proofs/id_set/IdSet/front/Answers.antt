@@ -1,17 +1,14 @@
 -- A set in chunks has a last chunk.
-use Rattle.std.proofs.Common.{◌≡◌, ◌≢◌, ◌-◌, ◌≤◌, List, ap, arith, get_or, length, refl, subst, sym, ◌∙◌, ℕ}
+use Rattle.std.proofs.Common.{◌-◌, ◌≤◌, List, ap, arith, get_or, length, subst, sym, ◌∙◌, ℕ}
 use Rattle.std.proofs.lemmas.Bool.{ne_eqb}
 use Rattle.bitpack_slices.proofs.ForCallers.{bytes_are}
 use Rattle.bitpack_sets.proofs.lemmas.written.FrontLaws.{is_front, many_ids}
 use Rattle.bitpack_sets.proofs.lemmas.encodings.EncodingLaws.{ids_are_read}
+use Rattle.bitpack_sets.proofs.lemmas.encodings.PlaceLaws.{not_chunks}
 use Rattle.bitpack_sets.proofs.id_set.IdSet.front.Goals as goal
 use Rattle.bitpack_sets.specs.Forms.{IsForm}
 use Rattle.bitpack_sets.specs.Fronts.{IsFront, front_ids}
-use Rattle.bitpack_sets.specs.Opened.{encoding_of, ids}
-use Rattle.bitpack_sets.specs.declared.directory.Directory.{Directory}
-use Rattle.bitpack_sets.specs.declared.form.Form.{Form}
-use Rattle.bitpack_sets.specs.declared.form.Form.TheVariants as form
-use Rattle.bitpack_sets.specs.declared.id_set.IdSet.{IdSet}
+use Rattle.bitpack_sets.specs.Opened.{ids}
 use Rattle.bitpack_sets.specs.Sets.{encoding}
 
 pub returns-in-Chunks-clause-front : goal.returns-in-Chunks-clause-front
@@ -25,11 +22,6 @@ returns-in-Chunks-clause-front c =
     let front = is_front directory.count directory.chunks directory.rest.now (bytes_are directory.rest.now directory.are_bytes) directory.sound (directory.chunks - 1)
     (omega arith) (subst (λ (l : List ℕ). 128 ≤ length l) (sym is.ids_are) many) (omega arith) in
     subst (IsFront (front_ids (record { directory = directory }))) is.ids_are front
-
-not_chunks : (set : IdSet) (it : Form) → IsForm set it → ((directory : Directory) → it ≡ form.Chunks directory → ⊥) → get_or (encoding_of set) 0 0 ≢ 5
-not_chunks set (form.Few few) is other five = is.not_chunks five
-not_chunks set (form.Array rest) is other five = let six = is.array in absurd (omega arith)
-not_chunks set (form.Chunks directory) is other five = absurd (other directory refl)
 
 pub returns-in_default : goal.returns-in_default
 returns-in_default c =
