@@ -1,5 +1,6 @@
 -- The definitions of this crate.
 pub mod Folds
+pub mod Gathered
 pub mod Operations
 pub mod Pairs
 pub mod Queried

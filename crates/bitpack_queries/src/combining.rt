@@ -1,6 +1,6 @@
 //! Combines two sets.
 
-ghost use Rattle.std.specs.Prelude.{◌≡◌, ◌+◌, ◌*◌, ◌^◌, ◌<◌, ◌≤◌, ◌↔◌, ◌++◌, [], IfErr, IfOk, IsTrue, OnErr, OnOk, length, map, take, vec_capacity, vec_len};
+ghost use Rattle.std.specs.Prelude.{◌≡◌, ◌+◌, ◌*◌, ◌^◌, ◌<◌, ◌≤◌, ◌↔◌, [], IfErr, IfOk, IsTrue, OnErr, length, map, take};
 ghost use Rattle.bitpack_slices.specs.Follows.{Follow};
 ghost use Rattle.bitpack_sets.specs.Opened.{ids};
 ghost use Rattle.bitpack_slices.specs.Operations.{answer, those};
@@ -10,34 +10,9 @@ use crate::pairing::{Meeting, Pair};
 use bitpack_sets::IdSet;
 use bitpack_sets::chunked::chunks_of;
 use bitpack_sets::id_set::ROOM;
-use bitpack_sets::reserved::append_zeros;
 use bitpack_slices::body::combine as combine_bodies;
 use bitpack_slices::listed::merging::merge;
 use bitpack_slices::{Operation, SetError};
-
-/// Appends the ids that an operation on two sets gives, when they were counted.
-pub(crate) fn append_combined(
-    operation: Operation,
-    a: &IdSet,
-    b: &IdSet,
-    count: usize,
-    out: &mut Vec<u32>,
-) -> Result<(), SetError>
-    requires { count ≡ length (answer operation (ids a.now) (ids b.now)) }
-    ensures ok { OnOk result (out.new.items ≡ out.old.items ++ answer operation (ids a.now) (ids b.now)) }
-    ensures memory { IfErr result (λ e. e ≡ SetError.Memory) }
-    ensures room { OnErr result (vec_capacity out.old < vec_len out.old + length (answer operation (ids a.now) (ids b.now))) }
-    ensures unchanged { OnErr result (out.new.items ≡ out.old.items) }
-    ensures capacity { OnErr result (vec_capacity out.new ≡ vec_capacity out.old) }
-{
-    let from = out.len();
-    if out.reserve(count).is_err() {
-        return Err(SetError::Memory);
-    }
-    append_zeros(out, count);
-    combine_to(operation, a, b, out.slice_mut(from..)).unwrap();
-    Ok(())
-}
 
 /// Writes the ids that an operation on two sets gives at the start of the slice, and returns their number. Allocates nothing.
 ///
@@ -137,7 +112,7 @@ fn write_chunks(mut pair: Pair, out: &mut [u32]) -> usize
 
 /// Writes the ids of a key that are in the answer, if there is room for all. Returns the index after the last, or one past the slice if there
 /// is no room.
-fn write_meeting(pair: &Pair, meeting: Meeting, out: &mut [u32], at: usize) -> usize
+pub(crate) fn write_meeting(pair: &Pair, meeting: Meeting, out: &mut [u32], at: usize) -> usize
     requires meeting { IsMeeting pair.now meeting }
     requires start { at ≤ 2 ^ 32 }
     ensures { Follow (map (λ i. meeting.key * 65536 + i) (those 65536 (meets pair.now meeting))) out.old out.new at result }

@@ -1,37 +1,169 @@
 //! Combines two sets into one.
 //! FORMAT.md, "Id sets".
 
-ghost use Rattle.std.specs.Prelude.{length, vec_capacity};
-ghost use Rattle.bitpack_sets.specs.Opened.{ids};
-ghost use Rattle.bitpack_slices.specs.Operations.{answer};
-ghost use Rattle.bitpack_sets.specs.Written.{AppendsWith};
+mod gathering;
 
-use crate::combining::{append_combined, combine_count};
-use bitpack_sets::IdSet;
-use bitpack_sets::encoding::append_set;
+ghost use Rattle.std.specs.Prelude.{◌≡◌, ℕ, ◌+◌, ◌*◌, ◌^◌, ◌≤◌, List, length};
+ghost use Rattle.bitpack_slices.specs.Operations.{answer, apply};
+ghost use Rattle.bitpack_slices.specs.Reads.{has};
+ghost use Rattle.bitpack_sets.specs.Opened.{ids};
+ghost use Rattle.bitpack_sets.specs.Sets.{IsSet};
+ghost use Rattle.bitpack_queries.specs.Gathered.{Fills, PutsSet};
+ghost use Rattle.bitpack_sets.specs.Written.{places};
+ghost use Rattle.bitpack_queries.specs.Pairs.{left, positions_left};
+
+use crate::combining::combine_to;
+use crate::combining_sets::gathering::gather;
+use crate::pairing::Pair;
+use bitpack_sets::chunked::chunks_of;
+use bitpack_sets::encoding::chunks::chunks_len;
+use bitpack_sets::encoding::gathered::write_gathered;
 use bitpack_sets::encoding::order::LONGEST_SET;
+use bitpack_sets::few::MOST_FEW;
+use bitpack_sets::id_set::ROOM;
+use bitpack_sets::{IdSet, encode_to, encoded_len};
 use bitpack_slices::{Operation, SetError};
 
-/// Appends the encoding of the set that an operation on two sets gives. It writes the ids of the answer into `room`, whose items are lost.
+/// An answer of at most 256 ids, or at most 3,840, is unpacked and encoded.
+const MOST_FEW_LISTED: usize = 256;
+
+const MOST_LISTED: usize = 3840;
+
+/// The room for these, and for 256 more: with less it takes longer to unpack.
+const FEW_ROOM: usize = 512;
+
+const LISTED_ROOM: usize = 4096;
+
+/// Writes the encoding of the set that an operation on two sets gives at the start of the slice, and returns its length in bytes. Allocates nothing.
 ///
-/// The answer has at most 268,435,456 ids: with more it fails with `TooLong`, and only counts them. It fails with `Memory` if a vector cannot
-/// grow. `room` does not grow if it has room for the ids.
-pub fn combine_set(
+/// `room` is work space: four items for each chunk of both sets, or for each id of a set that is not in chunks. The answer has at most
+/// 268,435,456 ids: with more it fails with `TooLong`. It fails with `Short` if the slice is too short for the set, or the work space. Bytes after
+/// the set may change, and any byte if it fails.
+pub fn combine_set_to(
     operation: Operation,
     a: &IdSet,
     b: &IdSet,
-    room: &mut Vec<u32>,
-    out: &mut Vec<u8>,
-) -> Result<(), SetError>
-    // claim: sets/25 appends the encoding of the ids of an operation on two sets, at most 268,435,456; needs work space for them
-    ensures { AppendsWith (vec_capacity room.old) (length (answer operation (ids a.now) (ids b.now))) (answer operation (ids a.now) (ids b.now))
+    room: &mut [u32],
+    out: &mut [u8],
+) -> Result<usize, SetError>
+    // claim: sets/25 writes the encoding of the ids of an operation on two sets; needs work space for their chunks; other bytes may change
+    ensures { PutsSet (length room.old) (4 * (places (ids a.now) + places (ids b.now))) (answer operation (ids a.now) (ids b.now))
         result out.old out.new }
 {
-    let count = combine_count(operation, a, b);
+    if room.len() < room_len(a, b) {
+        return Err(SetError::Short);
+    }
+    let len = write(operation, a, b, room, out)?;
+    if len > out.len() {
+        return Err(SetError::Short);
+    }
+    Ok(len)
+}
+
+/// How much work space two sets need.
+fn room_len(a: &IdSet, b: &IdSet) -> usize
+    ensures { result ≡ 4 * (places (ids a.now) + places (ids b.now)) }
+{
+    4 * (a.places() + b.places())
+}
+
+/// Writes the encoding of the set that an operation on two sets gives, if there is room for it. Returns its length in bytes, or `TooLong`.
+fn write(
+    operation: Operation,
+    a: &IdSet,
+    b: &IdSet,
+    room: &mut [u32],
+    out: &mut [u8],
+) -> Result<usize, SetError>
+    requires room { 4 * (places (ids a.now) + places (ids b.now)) ≤ length room.old }
+    ensures { Fills (answer operation (ids a.now) (ids b.now)) result out.old out.new }
+{
+    let most = most_ids(operation, a.len(), b.len());
+    if most <= MOST_FEW_LISTED {
+        let mut ids = [0; FEW_ROOM];
+        return write_unpacked(operation, a, b, &mut ids, out);
+    }
+    if most <= MOST_LISTED {
+        let mut ids = [0; LISTED_ROOM];
+        return write_unpacked(operation, a, b, &mut ids, out);
+    }
+    // Two sets that are not in chunks need no more room than this.
+    if most <= room.len().min(LONGEST_SET) {
+        return write_unpacked(operation, a, b, room, out);
+    }
+    let mut rooms = ([0; ROOM], [0; ROOM]);
+    let pair = Pair::new(
+        operation,
+        chunks_of(a, &mut rooms.0),
+        chunks_of(b, &mut rooms.1),
+    );
+    write_pair(pair, operation, a, b, room, out)
+}
+
+/// How many ids the answer has at most.
+fn most_ids(operation: Operation, a: usize, b: usize) -> usize
+    requires few { (a ≤ 2 ^ 28) × (b ≤ 2 ^ 28) }
+    ensures { (xs ys : List ℕ) → IsSet xs → IsSet ys → length xs ≡ a → length ys ≡ b → length (answer operation xs ys) ≤ result }
+{
+    match operation {
+        Operation::And => a.min(b),
+        Operation::AndNot => a,
+        _ => a + b,
+    }
+}
+
+/// Writes the encoding of the set chunk by chunk, as `write`. If it is no set in chunks, its ids are unpacked.
+fn write_pair(
+    pair: Pair,
+    operation: Operation,
+    a: &IdSet,
+    b: &IdSet,
+    room: &mut [u32],
+    out: &mut [u8],
+) -> Result<usize, SetError>
+    requires left { (x : ℕ) → left pair x ≡ apply operation (has x (ids a.now)) (has x (ids b.now)) }
+    requires room { 4 * positions_left pair ≤ length room.old }
+    ensures { Fills (answer operation (ids a.now) (ids b.now)) result out.old out.new }
+{
+    let places = pair.places();
+    let (keys, others) = room.split_at_mut(places);
+    let (counts, sizes) = others.split_at_mut(places);
+    let gathered = gather(pair, keys, counts, sizes, out);
+    let (count, chunks) = (gathered.count, gathered.chunks);
     if count > LONGEST_SET {
         return Err(SetError::TooLong(count));
     }
-    room.clear();
-    append_combined(operation, a, b, count, room)?;
-    append_set(room.as_slice(), out)
+    if count <= MOST_FEW {
+        let mut ids = [0; FEW_ROOM];
+        return write_unpacked(operation, a, b, &mut ids, out);
+    }
+    if count < 4 * chunks {
+        return write_unpacked(operation, a, b, room, out);
+    }
+    let len = chunks_len(count, chunks, gathered.size);
+    if len <= out.len() {
+        let (keys, counts, sizes) = (&keys[..chunks], &counts[..chunks], &sizes[..chunks]);
+        write_gathered(count, gathered.size, keys, counts, sizes, &mut out[..len]);
+    }
+    Ok(len)
+}
+
+/// Writes the encoding of the set after it unpacked its ids, as `write`. The work space has room for them.
+fn write_unpacked(
+    operation: Operation,
+    a: &IdSet,
+    b: &IdSet,
+    room: &mut [u32],
+    out: &mut [u8],
+) -> Result<usize, SetError>
+    requires room { length (answer operation (ids a.now) (ids b.now)) ≤ length room.old }
+    requires few { length (answer operation (ids a.now) (ids b.now)) ≤ 2 ^ 28 }
+    ensures { Fills (answer operation (ids a.now) (ids b.now)) result out.old out.new }
+{
+    let count = combine_to(operation, a, b, room).unwrap();
+    let len = encoded_len(&room[..count]).unwrap();
+    if len <= out.len() {
+        encode_to(&room[..count], out).unwrap();
+    }
+    Ok(len)
 }

@@ -15,7 +15,7 @@ mod step;
 pub use as_step::AsStep;
 pub use combining::{combine_count, combine_to, is_disjoint, is_subset};
 pub use combining_all::{combine_all_count, combine_all_to};
-pub use combining_sets::combine_set;
+pub use combining_sets::combine_set_to;
 pub use in_place::{add, add_to, remove, retain, retain_if};
 pub use query::testing::test_query;
 pub use query::{Query, query_to};

@@ -29,7 +29,7 @@ pub(crate) struct Meeting {
 }
 
 impl<'a> Pair<'a> {
-    ghost use Rattle.std.specs.Prelude.{ℕ, ◌^◌, ◌<◌, IfSome, IfNone, true, false};
+    ghost use Rattle.std.specs.Prelude.{ℕ, ◌+◌, ◌^◌, ◌<◌, IfSome, IfNone, true, false};
     ghost use Rattle.bitpack_sets.specs.Chunks.{first_key, ids_from};
     ghost use Rattle.bitpack_slices.specs.Operations.{apply};
     ghost use Rattle.bitpack_queries.specs.Pairs.{IsMeeting, IsPart, left, meets, positions_left};
@@ -38,7 +38,8 @@ impl<'a> Pair<'a> {
     /// All of two sets.
     #[tactic(auto, unfolding(crate::specs::Pairs::left))]
     pub(crate) fn new(operation: Operation, a: Chunks<'a>, b: Chunks<'a>) -> Pair<'a>
-        ensures { (x : ℕ) → left result x ≡ apply operation (has x (ids_from a.entry 0)) (has x (ids_from b.entry 0)) }
+        ensures left { (x : ℕ) → left result x ≡ apply operation (has x (ids_from a.entry 0)) (has x (ids_from b.entry 0)) }
+        ensures places { positions_left result ≡ positions a.entry + positions b.entry }
     {
         Pair {
             operation,
@@ -47,6 +48,13 @@ impl<'a> Pair<'a> {
             i: 0,
             j: 0,
         }
+    }
+
+    /// How many chunks, or ids of an array, are left of both.
+    pub(crate) fn places(&self) -> usize
+        ensures { result ≡ positions_left self.now }
+    {
+        (self.a.len() - self.i) + (self.b.len() - self.j)
     }
 
     /// The next key that the answer can have, or `None` if no id is left.

@@ -1,6 +1,8 @@
 -- The answer of two sets, chunk by chunk, and ids in an array.
 pub mod AnswerLaws
 pub mod CountLaws
+pub mod GatherLaws
+pub mod LoneLaws
 pub mod RetainedLaws
 pub mod StepLaws
 pub mod UnitedLaws

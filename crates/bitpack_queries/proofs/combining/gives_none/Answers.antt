@@ -11,7 +11,7 @@ use Rattle.bitpack_queries.proofs.combining.gives_none.Goals as goal
 pub loop-meeting-init : goal.loop-meeting-init
 loop-meeting-init c = record {
   rest =
-      (let all = ap length (answer_left c.args.operation (ids c.args.a.now) (ids_from c.chunks_of.result 0) (ids c.args.b.now) (ids_from c.chunks_of-2.result 0) (left c.new-pair.result) c.chunks_of.ensures c.chunks_of-2.ensures c.new-pair.ensures) in
+      (let all = ap length (answer_left c.args.operation (ids c.args.a.now) (ids_from c.chunks_of.result 0) (ids c.args.b.now) (ids_from c.chunks_of-2.result 0) (left c.new-pair.result) c.chunks_of.ensures.ids c.chunks_of-2.ensures.ids c.new-pair.ensures.left) in
       omega arith);
 }
 

@@ -10,4 +10,4 @@ use Rattle.bitpack_queries.specs.Pairs.{left}
 pub returns : goal.returns
 returns c =
     follow_as _ _ _ _ _ _ (sym (answer_left c.args.operation (ids c.args.a.now) (ids_from c.chunks_of-x.result 0) (ids c.args.b.now) (ids_from c.chunks_of-y.result 0) (left c.new.result)
-    c.chunks_of-x.ensures c.chunks_of-y.ensures c.new.ensures)) c.write_chunks.ensures
+    c.chunks_of-x.ensures.ids c.chunks_of-y.ensures.ids c.new.ensures.left)) c.write_chunks.ensures

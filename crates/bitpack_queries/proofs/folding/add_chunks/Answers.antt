@@ -46,4 +46,4 @@ loop-k-preserved c =
 pub returns-clause-own : goal.returns-clause-own
 returns-clause-own c i small =
     let past = c.loop-k-test.false in
-    c.loop-k.invariant.done i (omega arith) ∙ ap (λ (xs : List ℕ). joined c.args.takes c.args.operation (found c.args.highs.now c.args.words.now i) (has (c.args.base * 65536 + i) xs)) c.chunks_of-chunks.ensures
+    c.loop-k.invariant.done i (omega arith) ∙ ap (λ (xs : List ℕ). joined c.args.takes c.args.operation (found c.args.highs.now c.args.words.now i) (has (c.args.base * 65536 + i) xs)) c.chunks_of-chunks.ensures.ids
