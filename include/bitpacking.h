@@ -54,7 +54,7 @@ uint32_t bitpacking_version(void);
 #define BITPACKING_NO_OPERAND (-10)  /* queries: an operation lacks an operand */
 #define BITPACKING_LEFT_OVER (-11)   /* queries: after the last step there is no operand, or more than one */
 #define BITPACKING_BAD_TABLE (-12)   /* terms: the parts of scores are not a table */
-#define BITPACKING_BAD_KIND (-23)    /* columns: no kind has this number, or a search is in a plain column */
+#define BITPACKING_BAD_KIND (-23)    /* columns: no kind has this number, or a search is in a plain column; sets: no operation has this number */
 #define BITPACKING_TOO_LONG (-25)    /* more than 268,435,456 values, ids or terms; opened bytes have it too */
 #define BITPACKING_NOT_SORTED (-30)  /* a value or an id is out of order; opened bytes have it too */
 
@@ -104,7 +104,7 @@ static inline const char *bitpacking_error_text(ptrdiff_t number)
     case BITPACKING_BAD_TABLE:
         return "The parts of scores are not a table.";
     case BITPACKING_BAD_KIND:
-        return "No kind has this number, or the column is plain, and a plain column has no order.";
+        return "No kind or operation has this number, or the column is plain, and a plain column has no order.";
     case BITPACKING_TOO_LONG:
         return "There are more than 268435456 values.";
     case BITPACKING_NOT_SORTED:
@@ -508,6 +508,29 @@ int32_t bitpacking_set_is_disjoint(const bitpacking_set *first, const bitpacking
  */
 ptrdiff_t bitpacking_set_query(const bitpacking_set *views, size_t views_len, const uint32_t *steps, size_t steps_len,
                                uint64_t *space, size_t space_len, uint64_t *next, uint32_t *ids, size_t ids_len, size_t *position);
+
+/* Writes the set that an operation on two sets gives at the start of bytes, and returns its number of bytes: what bitpacking_set_pack writes of its
+ * ids. The operation is BITPACKING_AND, _OR, _AND_NOT or _XOR. Large sets are combined chunk by chunk, and not unpacked. bytes may not overlap the
+ * bytes of the sets. Bytes after the set may have changed, and any byte if the call fails. A call takes about 60 KB of stack.
+ *
+ * room is work space, which may hold anything: as many items as bitpacking_set_combine_room returns for the sets. The call may change any item. Room
+ * for the bytes of both sets, and 8500 more, is usually enough. If the call returns SHORT, double the room:
+ *
+ *     size_t room_len = bitpacking_set_combine_room(&first, &second), bytes_len = first.bytes_len + second.bytes_len + 8500;
+ *     ...
+ *     ptrdiff_t size = bitpacking_set_combine(BITPACKING_OR, &first, &second, room, room_len, bytes, bytes_len);
+ *
+ *     BAD_KIND      no operation has this number
+ *     SHORT         the work space is too short
+ *     TOO_LONG      the set would have more than 268,435,456 ids
+ *     SHORT         bytes_len is below the bytes of the set: BITPACKING_SET_ROOM(its ids) are always enough
+ */
+ptrdiff_t bitpacking_set_combine(uint32_t operation, const bitpacking_set *first, const bitpacking_set *second, uint32_t *room, size_t room_len,
+                                 uint8_t *bytes, size_t bytes_len);
+
+/* Returns how many items of work space bitpacking_set_combine needs for these sets: 4 for each chunk of both, or for each id of a set that is not
+ * in chunks. */
+size_t bitpacking_set_combine_room(const bitpacking_set *first, const bitpacking_set *second);
 
 /* Calls that combine a set with the increasing ids of an array, in the array. They return how many ids are in its front then.
  *

@@ -20,6 +20,7 @@ mod column_view;
 mod column_wide;
 mod no_initial;
 mod ranking;
+mod set_algebra;
 mod set_appending;
 mod set_builder;
 mod set_building;

@@ -26,16 +26,24 @@ pub struct QueryStep {
 impl AsStep for QueryStep {
     ghost its_step = { λ step. step_of step.number };
 
-    #[tactic(auto, unfolding(crate::specs::SetQueries::step_of))]
     #[inline(always)]
     fn as_step(&self) -> Step {
-        match self.number {
-            AND => Step::Combine(Operation::And),
-            OR => Step::Combine(Operation::Or),
-            AND_NOT => Step::Combine(Operation::AndNot),
-            XOR => Step::Combine(Operation::Xor),
-            set => Step::Set(set as usize),
-        }
+        numbered(self.number)
+    }
+}
+
+/// The step of a number.
+#[tactic(auto, unfolding(crate::specs::SetQueries::step_of))]
+#[inline(always)]
+pub(crate) fn numbered(number: u32) -> Step
+    ensures { result ≡ step_of number }
+{
+    match number {
+        AND => Step::Combine(Operation::And),
+        OR => Step::Combine(Operation::Or),
+        AND_NOT => Step::Combine(Operation::AndNot),
+        XOR => Step::Combine(Operation::Xor),
+        set => Step::Set(set as usize),
     }
 }
 
