@@ -2,7 +2,7 @@
 
 use std::collections::BTreeSet;
 
-use bitpacking::queries::{add, combine_all_count, combine_all_to, combine_count, combine_set, combine_to, remove, retain};
+use bitpacking::queries::{add, combine_all_count, combine_all_to, combine_count, combine_set_to, combine_to, remove, retain};
 use bitpacking::sets::{IdSet, encode};
 use bitpacking::slices::{Operation, SetError};
 
@@ -48,9 +48,14 @@ fn written(name: &str, operation: Operation, (a, b): (&IdSet<'_>, &IdSet<'_>), a
         let refused = combine_to(operation, a, b, &mut found[..less]);
         report.check(&row.name, &format!("{name} without room"), refused, Err(SetError::Short));
     }
-    let mut bytes = vec![0xA5];
-    report.check(&row.name, &format!("{name}, as a set"), combine_set(operation, a, b, &mut Vec::new(), &mut bytes), Ok(()));
-    report.check(&row.name, &format!("{name}, bytes"), bytes[0] == 0xA5 && bytes[1..] == encoded(answer), true);
+    let expected = encoded(answer);
+    let mut room = vec![7; 4 * (a.places() + b.places())];
+    let mut bytes = vec![0xA5; expected.len()];
+    let refused = combine_set_to(operation, a, b, &mut room, &mut bytes[1..]);
+    report.check(&row.name, &format!("{name}, as a set without room"), refused, Err(SetError::Short));
+    let written = combine_set_to(operation, a, b, &mut room, &mut bytes);
+    report.check(&row.name, &format!("{name}, as a set"), written, Ok(expected.len()));
+    report.check(&row.name, &format!("{name}, bytes"), bytes == expected, true);
 }
 
 /// The ids of a vector with a set: in their order, and in the opposite order too.
@@ -121,9 +126,10 @@ pub fn counted_by_hand(report: &mut Report) {
     report.check("all ids", "or, counted", combine_all_count(Operation::Or, &sets), 1 << 32);
     report.check("all ids", "xor, counted", combine_all_count(Operation::Xor, &sets), 1 << 32);
     report.check("all ids", "or of two, counted", combine_count(Operation::Or, &sets[0], &sets[15]), 1 << 29);
-    let (mut ids, mut set) = ([0; 100], vec![]);
+    let mut ids = [0; 100];
     report.check("all ids", "or without room", combine_all_to(Operation::Or, &sets, &mut ids), Err(SetError::Short));
-    let refused = combine_set(Operation::Or, &sets[0], &sets[15], &mut Vec::new(), &mut set);
+    let mut room = vec![0; 4 * (sets[0].places() + sets[15].places())];
+    let refused = combine_set_to(Operation::Or, &sets[0], &sets[15], &mut room, &mut []);
     report.check("all ids", "or of two, as a set", refused, Err(SetError::TooLong(1 << 29)));
 }
 

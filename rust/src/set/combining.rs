@@ -4,12 +4,15 @@ use alloc::vec::Vec;
 
 use super::packing::packed;
 use super::{Error, IdSet, IdSetBuf};
-use crate::growing::resize;
+use crate::growing::{Growing, resize};
 use crate::queries;
 use crate::slices::Operation;
 
 /// The most ids for which a call makes room without counting the ids of the answer first: 16 MB.
 const MOST_UNCOUNTED: usize = 1 << 22;
+
+/// Room in bytes for a short set: to free less takes longer than to combine short sets.
+const MORE: usize = 100;
 
 /// How many ids the first set gives, combined with each other set in turn.
 #[track_caller]
@@ -48,7 +51,32 @@ pub(super) fn combine(operation: Operation, sets: &[&IdSet]) -> Vec<u32> {
 
 /// The set that an operation on two sets gives, or `TooLong` or `Memory`.
 fn try_combine_set(operation: Operation, one: &IdSet, other: &IdSet) -> Result<IdSetBuf, Error> {
-    packed(|bytes| queries::combine_set(operation, &one.code(), &other.code(), &mut Vec::new(), bytes))
+    // The answer is seldom longer, and in chunks it has at most two bytes for each id.
+    let ids = match operation {
+        Operation::And => one.len().min(other.len()),
+        Operation::AndNot => one.len(),
+        Operation::Or | Operation::Xor => one.len() + other.len(),
+    };
+    let mut most = (one.as_bytes().len() + other.as_bytes().len()).min(2 * ids) + MORE;
+    let (one, other) = (one.code(), other.code());
+    let mut room = Vec::new();
+    room.try_resize(4 * (one.places() + other.places()), 0).map_err(|_| Error::Memory)?;
+    packed(|bytes| {
+        loop {
+            bytes.try_resize(most, 0).map_err(|_| Error::Memory)?;
+            match queries::combine_set_to(operation, &one, &other, &mut room, bytes) {
+                Err(Error::Short) => most *= 2,
+                written => {
+                    bytes.truncate(written?);
+                    break;
+                }
+            }
+        }
+        if bytes.capacity() > 2 * bytes.len() + MORE {
+            bytes.shrink_to_fit();
+        }
+        Ok(())
+    })
 }
 
 /// The set that an operation on two sets gives. Panics if there is an error.
@@ -60,7 +88,8 @@ pub(super) fn combine_set(operation: Operation, one: &IdSet, other: &IdSet) -> I
     }
 }
 
-/// Two sets combined. A call that returns a set allocates 4 bytes for each id of the answer, and the bytes of its encoding.
+/// Two sets combined. A call that returns a set allocates as many bytes as both sets have, more if the answer has more, and 16 for each chunk, or for
+/// each id of a set that is not in chunks.
 impl IdSet {
     /// Returns the set of the ids that both have, also as `&`.
     ///

@@ -146,7 +146,10 @@ fn combining_sets() {
         for other in &sets {
             let (one, other): (&IdSet, &IdSet) = (one, other);
             let [and, or, not, xor] = [one & other, one | other, one - other, one ^ other];
-            let set_of = |answer: &IdSet| ids_of(answer.len()) + octets(answer.as_bytes());
+            // Work space, room for the bytes of both, twice and four times that if the answer has more, and for its bytes if it has far fewer.
+            let room =
+                16 * (one.code().places() + other.code().places()) + 7 * (one.as_bytes().len() + other.as_bytes().len() + 100);
+            let set_of = |answer: &IdSet| room + 2 * octets(answer.as_bytes());
             let mut ids = Vec::with_capacity(one.len() + other.len());
             nothing! {
                 (one.intersect_len(other), one.unite_len(other), one.subtract_len(other), one.symmetric_difference_len(other));
@@ -161,10 +164,10 @@ fn combining_sets() {
                 set::intersect_all_into(&[one, other, one], &mut ids);
             }
             each! {
-                2, set_of(&and) => one.intersect(other);
-                2, set_of(&or) => one | other;
-                2, set_of(&not) => one.subtract(other);
-                2, set_of(&xor) => one ^ other;
+                5, set_of(&and) => one.intersect(other);
+                5, set_of(&or) => one | other;
+                5, set_of(&not) => one.subtract(other);
+                5, set_of(&xor) => one ^ other;
                 // A shorter answer is copied.
                 2, 4 * (one.len().min(other.len()) + and.len()) => set::intersect_all(&[one, other]);
                 2, 4 * (one.len() + other.len() + or.len()) => set::unite_all(&[one, other]);

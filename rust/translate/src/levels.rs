@@ -56,7 +56,7 @@ pub const ENTRIES: [Entries; 24] = [
     entries(("sets", "opening.rt"), "opening", &["test_encoding"]),
     entries(("queries", "combining.rt"), "combining", &["combine_to", "combine_count", "is_disjoint", "is_subset"]),
     entries(("queries", "combining_all.rt"), "combining_all", &["combine_all_to", "combine_all_count"]),
-    entries(("queries", "combining_sets.rt"), "combining_sets", &["combine_set"]),
+    entries(("queries", "combining_sets.rt"), "combining_sets", &["combine_set_to"]),
     entries(("queries", "in_place.rt"), "in_place", &["retain", "remove", "add", "add_to", "retain_if"]),
     entries(("sets", "encoding.rt"), "encoding", &["encode", "encode_to", "encoded_len"]),
     entries(("sets", "appending.rt"), "appending", &["append", "append_to"]),
