@@ -10,7 +10,7 @@ from fimulowen import IdSet
 from hypothesis import given, settings
 from hypothesis import strategies as st
 
-from test_id_set import arrays
+from test_id_set import MOST, arrays
 
 OPERATORS = (operator.and_, operator.or_, operator.sub, operator.xor)
 
@@ -63,6 +63,42 @@ def test_long():
     assert (fimulowen.symmetric_difference(a, b) == np.setxor1d(one, other)).all()
     assert (a | b) - a == b - a and fimulowen.intersect_len(a, b) == len(a & b)
     assert (a - b).isdisjoint(b) and (a & b) <= a <= (a | b) and not a.isdisjoint(b)
+
+
+# Sets in each form: none, one, few, an array, and chunks of numbers, of bitmaps and of runs, with full ones.
+FORMS = {
+    "none": [],
+    "one": [70_000],
+    "few": range(5, 127_000, 1000),
+    "array": range(7, 60_000_000, 65_537),
+    "numbers": range(3, 2_700_000, 300),
+    "bitmaps": range(0, 200_000, 5),
+    "runs": [400 * at + it for at in range(1000) for it in range(100)],
+    "gaps": [at for at in range(300_000) if at % 999],
+    "full": range(65_536, 3 * 65_536),
+    "the last": range(MOST - 140_000, MOST + 1),
+}
+
+
+@pytest.mark.parametrize("one", FORMS)
+def test_forms(one):
+    """The operators write the bytes that packing writes, whatever forms the sets and the answer have."""
+    a, x = IdSet(FORMS[one]), set(FORMS[one])
+    for other in FORMS:
+        b, y = IdSet(FORMS[other]), set(FORMS[other])
+        for call in OPERATORS:
+            found = call(a, b)
+            assert type(found) is IdSet and found.tobytes() == IdSet(sorted(call(x, y))).tobytes(), (one, call, other)
+            assert found.tobytes() == IdSet.open(found.tobytes()).tobytes()
+
+
+def test_more_bytes_than_both():
+    """A chunk without gaps has few bytes, and without many ids it has thousands."""
+    full, some = IdSet(range(1 << 22)), IdSet(np.cumsum(np.random.default_rng(5).integers(1, 40, 200_000)))
+    left = full - some
+    assert left.nbytes > 100_000 and left == IdSet(np.setdiff1d(full.unpack(), some.unpack())) and (left | (some & full)) == full
+    ends = IdSet(range(0, 1 << 22, 2))
+    assert full - ends == full ^ ends == IdSet(range(1, 1 << 22, 2))
 
 
 def test_none():

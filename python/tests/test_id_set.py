@@ -302,6 +302,8 @@ def test_core_refuses_other_arrays():
     for wrong in ([packed], (packed, 1), (None,), None):
         with pytest.raises((TypeError, SystemError)):
             core.set_combine(0, wrong)
+        with pytest.raises(TypeError):
+            core.set_join(IdSet, 0, packed, wrong)
     with pytest.raises(Error):
         packed._remove(np.array([2, 1], "u4"))
     for wrong, error in ((-1, OverflowError), (2, IndexError), ("1", TypeError)):
@@ -312,12 +314,16 @@ def test_core_refuses_other_arrays():
     for call in (-1, 4):
         with pytest.raises(ValueError):
             core.set_combine(call, (packed, packed))
+        with pytest.raises(ValueError):
+            core.set_join(IdSet, call, packed, packed)
     with pytest.raises(ValueError):
         core.set_combine(3, (packed,))
     for wrong in (int, 5, object, core.Packed, None):
         for call in (core.set_pack, core.set_open):
             with pytest.raises(TypeError):
                 call(wrong, np.zeros(1, "u4"))
+        with pytest.raises(TypeError):
+            core.set_join(wrong, 0, packed, packed)
     for call in (core.Set, core.Packed, lambda: object.__new__(IdSet), lambda: packed._is_disjoint(5)):
         with pytest.raises(TypeError):
             call()

@@ -108,6 +108,8 @@ def refused_round(ids, text, bounds):
         lambda: core.set_append(IdSet, packed, np.arange(3)),
         lambda: core.set_combine(9, (packed,)),
         lambda: core.set_combine(0, (packed, 5)),
+        lambda: core.set_join(IdSet, 9, packed, packed),
+        lambda: core.set_join(IdSet, 0, packed, 5),
         lambda: core.set_count(0, (packed, 5)),
         lambda: core.set_pack_many(ids.copy(), ids),
         lambda: core.arrow_array(None, None, 0),

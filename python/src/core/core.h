@@ -69,6 +69,9 @@ Packed *holding(PyTypeObject *type, PyObject *data, size_t from, size_t to);
 Packed *copy_of(PyTypeObject *type, const uint8_t *bytes, size_t len);
 int are_same(const Packed *one, const Packed *other);
 
+/* set.c */
+Packed *set_of(PyTypeObject *type, const uint8_t *bytes, size_t len);
+
 /* set_reading.c: the methods of a set. */
 Py_ssize_t Set_length(PyObject *self);
 PyObject *Set_item(PyObject *self, Py_ssize_t at);

@@ -38,7 +38,7 @@ static PyObject *set_open_many(PyObject *m, PyObject *args)
 }
 
 /* A set of bytes that the library wrote, which need no test. They are copied. */
-static Packed *written(PyTypeObject *type, const uint8_t *bytes, size_t len)
+Packed *set_of(PyTypeObject *type, const uint8_t *bytes, size_t len)
 {
     Packed *made = copy_of(type, bytes, len);
 
@@ -69,7 +69,7 @@ static PyObject *set_pack(PyObject *m, PyObject *args)
     UNLOCKED(len, size = bitpacking_set_pack(in.buf, len, to, room, NULL));
     PyBuffer_Release(&in);
     if (size >= 0)
-        made = (PyObject *)written((PyTypeObject *)type, to, (size_t)size);
+        made = (PyObject *)set_of((PyTypeObject *)type, to, (size_t)size);
     else if (size == BITPACKING_NOT_SORTED)
         made = Py_NewRef(Py_None);
     else
@@ -91,7 +91,7 @@ static Packed *appended(PyTypeObject *type, const bitpacking_set *view, const ui
     if (work && to) {
         UNLOCKED(before + len, size = bitpacking_set_append(view, ids, len, work, space, to, room, &position));
         if (size >= 0)
-            made = written(type, to, (size_t)size);
+            made = set_of(type, to, (size_t)size);
         else
             fail_at(size, size == BITPACKING_NOT_SORTED ? (Py_ssize_t)(position - before) : -1, -1);
     } else

@@ -3,6 +3,9 @@
 
 enum { INTERSECT, UNITE, SUBTRACT, XOR };
 
+/* More bytes than a chunk has. */
+enum { CHUNK = 8500 };
+
 /* Copies the views of a tuple of sets into new memory. */
 static bitpacking_set *views_of(PyObject *sets)
 {
@@ -92,6 +95,50 @@ static PyObject *set_combine(PyObject *m, PyObject *args)
     return array;
 }
 
+/* The set that an operation gives. Room for the bytes of both sets, and of a chunk more, is usually enough. It doubles until it is. */
+static Packed *joined(PyTypeObject *type, uint32_t operation, const bitpacking_set *one, const bitpacking_set *other)
+{
+    size_t items = bitpacking_set_combine_room(one, other), room = one->bytes_len + other->bytes_len + CHUNK;
+    uint32_t *work = PyMem_Malloc(4 * items + 4);
+    uint8_t *to = NULL;
+    Packed *made = NULL;
+    ptrdiff_t size = BITPACKING_SHORT;
+
+    for (; work && size == BITPACKING_SHORT; room *= 2) {
+        PyMem_Free(to);
+        if (!(to = PyMem_Malloc(room)))
+            break;
+        UNLOCKED(bitpacking_set_len(one) + bitpacking_set_len(other),
+                 size = bitpacking_set_combine(operation, one, other, work, items, to, room));
+    }
+    if (!work || !to)
+        PyErr_NoMemory();
+    else if (size < 0)
+        fail(size);
+    else
+        made = set_of(type, to, (size_t)size);
+    PyMem_Free(work);
+    PyMem_Free(to);
+    return made;
+}
+
+/* set_join(type, call, one, other): the set that an operation on two sets gives. */
+static PyObject *set_join(PyObject *m, PyObject *args)
+{
+    static const uint32_t operations[] = {BITPACKING_AND, BITPACKING_OR, BITPACKING_AND_NOT, BITPACKING_XOR};
+    PyObject *type, *one, *other;
+    int call;
+
+    (void)m;
+    if (!PyArg_ParseTuple(args, "OiO!O!", &type, &call, Set_type, &one, Set_type, &other) || !subtype_of(Set_type, type))
+        return NULL;
+    if (call < INTERSECT || call > XOR) {
+        PyErr_SetString(PyExc_ValueError, "there is no such call");
+        return NULL;
+    }
+    return (PyObject *)joined((PyTypeObject *)type, operations[call], &((Set *)one)->view, &((Set *)other)->view);
+}
+
 /* set_count(call, sets): how many ids all sets have, or any. */
 static PyObject *set_count(PyObject *m, PyObject *args)
 {
@@ -113,6 +160,7 @@ static PyObject *set_count(PyObject *m, PyObject *args)
 
 PyMethodDef combining_functions[] = {
     {"set_combine", set_combine, METH_VARARGS, SIGNED("set_combine(call, sets, /)", "An array.")},
+    {"set_join", set_join, METH_VARARGS, SIGNED("set_join(type, call, one, other, /)", "A set.")},
     {"set_count", set_count, METH_VARARGS, SIGNED("set_count(call, sets, /)", "How many ids all sets have, or any.")},
     {NULL, NULL, 0, NULL},
 };

@@ -250,4 +250,5 @@ def counted(call: int, sets: Sequence[IdSet]) -> int:
 def _joined(call: int, one: Any, other: Any) -> Any:
     if not hasattr(one, "__iter__") or not hasattr(other, "__iter__") or hasattr(other, "_node"):
         return NotImplemented  # a query joins what is on its left too
-    return IdSet._packed(combined(call, [as_set(one), as_set(other)]))
+    sets = as_set(one), as_set(other)
+    return waiting.run(sum(map(len, sets)), _core.set_join, IdSet, call, *sets)
