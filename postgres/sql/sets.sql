@@ -21,7 +21,8 @@ CREATE TABLE shapes AS SELECT k, ARRAY(SELECT DISTINCT x FROM (SELECT CASE k
     WHEN 6 THEN 2000000000 + i ELSE i * i % 30011 END AS x FROM generate_series(1, CASE k WHEN 3 THEN 60 ELSE 3000 END) i) q
         ORDER BY x)::int4[] AS a
     FROM generate_series(0, 7) k;
-INSERT INTO shapes VALUES (8, '{}'), (9, '{3}'), (10, '{3,60000}');
+INSERT INTO shapes VALUES (8, '{}'), (9, '{3}'), (10, '{3,60000}'), (11, ARRAY(SELECT generate_series(1, 30000, 3))),
+    (12, ARRAY(SELECT generate_series(60000, 80000))), (13, ARRAY(SELECT i / 50 * 90 + i % 50 FROM generate_series(0, 20000) i));
 CREATE TABLE pairs AS SELECT p.a AS a, q.a AS b, idset(p.a) AS x, idset(q.a) AS y FROM shapes p, shapes q;
 SELECT count(*) FROM pairs;
 SELECT bool_and((x & y)::int4[] = (a & b)), bool_and((x | y)::int4[] = (a | b)), bool_and((x - y)::int4[] = (a - b)) FROM pairs;
@@ -34,6 +35,9 @@ SELECT bool_and((x & y)::bytea = idset(a & b)::bytea), bool_and((x | y)::bytea =
 SELECT bool_and((x # y)::int4[] = ((a | b) - (a & b)) AND (x # y)::bytea = idset((a | b) - (a & b))::bytea) FROM pairs;
 SELECT bool_and(unite_len(x, y) = icount(a | b) AND subtract_len(x, y) = icount(a - b) AND symmetric_difference_len(x, y) = icount((a | b) - (a & b))
     AND jaccard(x, y) = CASE WHEN icount(a | b) = 0 THEN 1 ELSE icount(a & b)::float8 / icount(a | b) END) FROM pairs;
+-- A set without gaps has few bytes, and one with many gaps has more bytes than both sets that it is made of.
+SELECT octet_length((x - y)::bytea) > octet_length(x::bytea) + octet_length(y::bytea) + 8500, cardinality(x - y), (x - y) | y = x, x # y = x - y
+    FROM (SELECT idset(ARRAY(SELECT generate_series(0, 999999))), idset(ARRAY(SELECT i * 30 + i * i % 29 FROM generate_series(0, 33000) i))) q(x, y);
 -- A constant on one side or on both is opened once.
 SELECT bool_and((x @> '{3,60000}') = (a @> '{3,60000}') AND ('{3,60000}' <@ x) = (a @> '{3,60000}') AND (x <@ '{3,60000}') = (a <@ '{3,60000}')
     AND (x && '{3,60000}') = (a && '{3,60000}') AND ('{3,60000}' && x) = (a && '{3,60000}') AND (x & '{3,60000}')::int4[] = (a & '{3,60000}')

@@ -181,20 +181,27 @@ bitpacking_set opened_argument(FunctionCallInfo fcinfo, int number)
     return constant || (parameter && !are_trusted()) ? opened_to_keep(call, number, value, constant) : opened(value);
 }
 
+/* Ends a value after the bytes of a set, which the library wrote, and gives back the memory after them. */
+struct varlena *ended(struct varlena *value, size_t size)
+{
+    bitpacking_set set = BITPACKING_SET_EMPTY;
+
+    bitpacking_set_open_tested((const uint8_t *)VARDATA(value), size, &set);
+    limit_text(&set);
+    SET_VARSIZE(value, VARHDRSZ + size);
+    return repalloc(value, VARHDRSZ + size);
+}
+
 /* Packs a set of ids, which increase. */
 struct varlena *packed(const uint32 *ids, size_t len)
 {
     size_t room = BITPACKING_SET_ROOM(len);
     struct varlena *value = palloc_extended(VARHDRSZ + room, MCXT_ALLOC_HUGE);
     ptrdiff_t size = bitpacking_set_pack(ids, len, (uint8_t *)VARDATA(value), room, NULL);
-    bitpacking_set set = BITPACKING_SET_EMPTY;
 
     if (size < 0)
         refuse(size);
-    bitpacking_set_open_tested((const uint8_t *)VARDATA(value), (size_t)size, &set);
-    limit_text(&set);
-    SET_VARSIZE(value, VARHDRSZ + size);
-    return repalloc(value, VARHDRSZ + (size_t)size);
+    return ended(value, (size_t)size);
 }
 
 PG_FUNCTION_INFO_V1(idset_recv);

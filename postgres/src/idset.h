@@ -21,6 +21,7 @@ enum { PIECE = 1024 };
 void refuse(ptrdiff_t number) pg_attribute_noreturn();
 bitpacking_set opened(struct varlena *value);
 bitpacking_set opened_argument(FunctionCallInfo fcinfo, int number);
+struct varlena *ended(struct varlena *value, size_t size);
 struct varlena *packed(const uint32 *ids, size_t len);
 
 /* values.c: numbers of PostgreSQL, and arrays of ids. */

@@ -1,7 +1,8 @@
 /* What two sets have together: AND, OR, NOT and XOR as sets and as counts, and whether one is within the other. */
 #include "idset.h"
 
-typedef ptrdiff_t set_call(const bitpacking_set *, size_t, uint32_t *, size_t);
+/* More bytes than a chunk of a set has. */
+enum { CHUNK = 8500 };
 
 /* The sets of the two arguments. */
 typedef struct {
@@ -21,25 +22,24 @@ static two_sets opened_two(FunctionCallInfo fcinfo)
     return both(one, opened_argument(fcinfo, 1));
 }
 
-/* The ids that a call writes into so much room, packed. */
-static Datum combined(const two_sets *it, set_call *call, size_t room)
+/* The set that an operation gives. Room for the bytes of both sets, and of a chunk more, is usually enough. It doubles until it is. */
+static Datum combined(const two_sets *it, uint32 operation)
 {
-    uint32 *ids = new_ids(room);
-    ptrdiff_t len = call(it->sets, 2, ids, room);
-    struct varlena *value;
+    const bitpacking_set *one = &it->sets[0], *other = &it->sets[1];
+    size_t items = bitpacking_set_combine_room(one, other), room = one->bytes_len + other->bytes_len + CHUNK;
+    uint32 *work = new_ids(items);
+    struct varlena *value = palloc_extended(VARHDRSZ + room, MCXT_ALLOC_HUGE);
+    ptrdiff_t size;
 
-    if (len < 0)
-        refuse(len);
-    value = packed(ids, (size_t)len);
-    pfree(ids);
-    PG_RETURN_POINTER(value);
-}
-
-/* The library takes two sets for a XOR, and any number for other calls. */
-static ptrdiff_t xor_call(const bitpacking_set *sets, size_t count, uint32_t *ids, size_t room)
-{
-    Assert(count == 2);
-    return bitpacking_set_symmetric_difference(&sets[0], &sets[1], ids, room);
+    while ((size = bitpacking_set_combine(operation, one, other, work, items, (uint8_t *)VARDATA(value), room)) == BITPACKING_SHORT) {
+        room *= 2;
+        pfree(value);
+        value = palloc_extended(VARHDRSZ + room, MCXT_ALLOC_HUGE);
+    }
+    if (size < 0)
+        refuse(size);
+    pfree(work);
+    PG_RETURN_POINTER(ended(value, (size_t)size));
 }
 
 /* How many ids both sets have. */
@@ -62,10 +62,10 @@ static size_t common(const two_sets *it)
         return result;                                                                                                                 \
     }
 
-OF_TWO(idset_intersect, combined(&it, bitpacking_set_intersect, Min(it.len[0], it.len[1])))
-OF_TWO(idset_unite, combined(&it, bitpacking_set_unite, it.len[0] + it.len[1]))
-OF_TWO(idset_subtract, combined(&it, bitpacking_set_subtract, it.len[0]))
-OF_TWO(idset_symmetric_difference, combined(&it, xor_call, it.len[0] + it.len[1]))
+OF_TWO(idset_intersect, combined(&it, BITPACKING_AND))
+OF_TWO(idset_unite, combined(&it, BITPACKING_OR))
+OF_TWO(idset_subtract, combined(&it, BITPACKING_AND_NOT))
+OF_TWO(idset_symmetric_difference, combined(&it, BITPACKING_XOR))
 OF_TWO(idset_intersect_len, Int64GetDatum((int64)common(&it)))
 OF_TWO(idset_unite_len, Int64GetDatum((int64)(it.len[0] + it.len[1] - common(&it))))
 OF_TWO(idset_subtract_len, Int64GetDatum((int64)(it.len[0] - common(&it))))
@@ -100,7 +100,7 @@ Datum idset_add(PG_FUNCTION_ARGS)
     uint8_t bytes[BITPACKING_SET_ROOM(1)];
     two_sets it = both(opened_argument(fcinfo, 0), set_of(as_id(PG_GETARG_INT64(1)), bytes));
 
-    return combined(&it, bitpacking_set_unite, it.len[0] + 1);
+    return combined(&it, BITPACKING_OR);
 }
 
 /* The set without a number. No set has a number that is out of range. */
@@ -115,5 +115,5 @@ Datum idset_remove(PG_FUNCTION_ARGS)
     if (number < 0 || number > UINT32_MAX)
         PG_RETURN_DATUM(PG_GETARG_DATUM(0));
     it = both(set, set_of((uint32)number, bytes));
-    return combined(&it, bitpacking_set_subtract, it.len[0]);
+    return combined(&it, BITPACKING_AND_NOT);
 }

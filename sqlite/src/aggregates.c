@@ -55,14 +55,9 @@ static ptrdiff_t combine_all(collected *it, set_call *call)
 {
     bitpacking_set *views = views_of(it);
     uint8_t *bytes;
-    uint32_t *ids;
-    ptrdiff_t len = views ? combined(call, views, it->count, &ids) : NO_MEMORY;
+    ptrdiff_t len = views ? joined(call, views, it->count, &bytes) : NO_MEMORY;
 
     sqlite3_free(views);
-    if (len < 0)
-        return len;
-    len = packed(ids, (size_t)len, &bytes);
-    sqlite3_free(ids);
     if (len < 0)
         return len;
     if ((size_t)len <= it->bytes_room) {

@@ -4,8 +4,8 @@
 /* If the OR of sets may have more ids, they are counted before there is room for them. */
 enum { MANY = 1 << 24 };
 
-/* The most room that bitpacking_set_append needs, beside room for the new ids. */
-enum { APPENDING = 262144 };
+/* More bytes than a chunk of a set has. */
+enum { CHUNK = 8500 };
 
 /* Writes the ids that an odd number of sets have. */
 ptrdiff_t xor_call(const bitpacking_set *views, size_t views_len, uint32_t *ids, size_t ids_len)
@@ -47,7 +47,7 @@ static size_t room_for(set_call *call, const bitpacking_set *views, size_t views
 }
 
 /* Writes the ids of a call into memory of their own. Returns how many they are. */
-ptrdiff_t combined(set_call *call, const bitpacking_set *views, size_t views_len, uint32_t **ids)
+static ptrdiff_t combined(set_call *call, const bitpacking_set *views, size_t views_len, uint32_t **ids)
 {
     size_t room = room_for(call, views, views_len);
     ptrdiff_t len;
@@ -102,18 +102,64 @@ static bitpacking_set *opened_all(sqlite3_context *context, int count, sqlite3_v
     return views;
 }
 
-/* Returns the ids that a call writes from a function, as a set. */
-static void result_combined(sqlite3_context *context, set_call *call, const bitpacking_set *views, size_t views_len)
+/* The operation on two sets that gives the ids of a call. */
+static uint32_t operation_of(set_call *call)
+{
+    if (call == bitpacking_set_intersect)
+        return BITPACKING_AND;
+    if (call == bitpacking_set_unite)
+        return BITPACKING_OR;
+    return call == bitpacking_set_subtract ? BITPACKING_AND_NOT : BITPACKING_XOR;
+}
+
+/* Combines two sets. Room for the bytes of both, and of a chunk more, is usually enough. It doubles until it is. */
+static ptrdiff_t joined_two(uint32_t operation, const bitpacking_set *one, const bitpacking_set *other, uint8_t **bytes)
+{
+    size_t items = bitpacking_set_combine_room(one, other), room = one->bytes_len + other->bytes_len + CHUNK;
+    uint32_t *work = new_ids(items);
+    ptrdiff_t size = work ? BITPACKING_SHORT : NO_MEMORY;
+
+    for (*bytes = NULL; size == BITPACKING_SHORT; room *= 2) {
+        sqlite3_free(*bytes);
+        if (!(*bytes = sqlite3_malloc64(room)))
+            size = NO_MEMORY;
+        else
+            size = bitpacking_set_combine(operation, one, other, work, items, *bytes, room);
+    }
+    sqlite3_free(work);
+    if (size < 0)
+        sqlite3_free(*bytes);
+    else
+        *bytes = shortened(*bytes, (size_t)size);
+    return size;
+}
+
+/* Combines sets into one, in memory of its own. Returns how many bytes it takes. */
+ptrdiff_t joined(set_call *call, const bitpacking_set *views, size_t views_len, uint8_t **bytes)
 {
     uint32_t *ids;
-    ptrdiff_t len = combined(call, views, views_len, &ids);
+    ptrdiff_t len;
 
-    if (len < 0) {
-        refuse_fault(context, len);
-        return;
-    }
-    result_ids(context, ids, (size_t)len);
+    if (views_len == 2)
+        return joined_two(operation_of(call), &views[0], &views[1], bytes);
+    len = combined(call, views, views_len, &ids);
+    if (len < 0)
+        return len;
+    len = packed(ids, (size_t)len, bytes);
     sqlite3_free(ids);
+    return len;
+}
+
+/* Returns the set that a call gives from a function. */
+static void result_joined(sqlite3_context *context, set_call *call, const bitpacking_set *views, size_t views_len)
+{
+    uint8_t *bytes;
+    ptrdiff_t size = joined(call, views, views_len, &bytes);
+
+    if (size < 0)
+        refuse_fault(context, size);
+    else
+        sqlite3_result_blob64(context, bytes, (size_t)size, sqlite3_free);
 }
 
 void idset_combine(sqlite3_context *context, int count, sqlite3_value **values)
@@ -121,7 +167,7 @@ void idset_combine(sqlite3_context *context, int count, sqlite3_value **values)
     bitpacking_set *views = opened_all(context, count, values);
 
     if (views)
-        result_combined(context, call_of(context), views, (size_t)count);
+        result_joined(context, call_of(context), views, (size_t)count);
     sqlite3_free(views);
 }
 
@@ -147,42 +193,20 @@ static bitpacking_set set_of(uint32_t id, uint8_t bytes[BITPACKING_SET_ROOM(1)])
     return set;
 }
 
-/* Returns a set with an id above all of its own from a function. Only its last chunk is packed again. */
-static void result_appended(sqlite3_context *context, const bitpacking_set *set, uint32_t id)
-{
-    size_t len = bitpacking_set_len(set) + 1, work = len < APPENDING + 1 ? len : APPENDING + 1;
-    uint32_t *ids = new_ids(work);
-    uint8_t *bytes = sqlite3_malloc64(BITPACKING_SET_ROOM(len));
-    ptrdiff_t size = NO_MEMORY;
-
-    if (ids && bytes)
-        size = bitpacking_set_append(set, &id, 1, ids, work, bytes, BITPACKING_SET_ROOM(len), NULL);
-    sqlite3_free(ids);
-    if (size < 0) {
-        sqlite3_free(bytes);
-        refuse_fault(context, size);
-        return;
-    }
-    sqlite3_result_blob64(context, shortened(bytes, (size_t)size), (size_t)size, sqlite3_free);
-}
-
 void idset_add(sqlite3_context *context, int count, sqlite3_value **values)
 {
     bitpacking_set views[2] = {BITPACKING_SET_EMPTY, BITPACKING_SET_EMPTY};
     uint8_t bytes[BITPACKING_SET_ROOM(1)];
-    size_t rank;
     uint32_t id;
 
     if (has_null(count, values) || !opened(context, values, 0, &views[0]) || !id_of(context, values, 1, &id))
         return;
-    rank = bitpacking_set_rank(&views[0], id);
-    views[1] = set_of(id, bytes);
-    if (bitpacking_set_contains(&views[0], id) == 1)
+    if (bitpacking_set_contains(&views[0], id) == 1) {
         sqlite3_result_value(context, values[0]);
-    else if (rank == bitpacking_set_len(&views[0]))
-        result_appended(context, &views[0], id);
-    else
-        result_combined(context, bitpacking_set_unite, views, 2);
+        return;
+    }
+    views[1] = set_of(id, bytes);
+    result_joined(context, bitpacking_set_unite, views, 2);
 }
 
 /* The set without an integer. No set has one that is no id. */
@@ -199,5 +223,5 @@ void idset_remove(sqlite3_context *context, int count, sqlite3_value **values)
         return;
     }
     views[1] = set_of((uint32_t)integer, bytes);
-    result_combined(context, bitpacking_set_subtract, views, 2);
+    result_joined(context, bitpacking_set_subtract, views, 2);
 }

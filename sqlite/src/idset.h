@@ -65,9 +65,9 @@ ptrdiff_t packed(const uint32_t *ids, size_t len, uint8_t **bytes);
 uint8_t *shortened(uint8_t *bytes, size_t len);
 void result_ids(sqlite3_context *context, const uint32_t *ids, size_t len);
 
-/* combining.c: ids of many sets. */
+/* combining.c: sets of many sets. */
 set_call xor_call;
-ptrdiff_t combined(set_call *call, const bitpacking_set *views, size_t views_len, uint32_t **ids);
+ptrdiff_t joined(set_call *call, const bitpacking_set *views, size_t views_len, uint8_t **bytes);
 
 /* The functions of SQL. The aggregates have two each. */
 scalar idset_make, idset_len, idset_min, idset_max, idset_contains, idset_rank, idset_seek, idset_range, idset_add, idset_remove;

@@ -114,6 +114,21 @@ def test_aggregates(db):
         assert [unpacked(db, united), unpacked(db, common)] == right, word
 
 
+def test_long_sets(db):
+    """Sets in chunks of each form. A set without gaps has few bytes, and with many gaps more than both that it is made of."""
+    forms = [range(0, 100_000, 5), range(60_000, 100_000), [400 * at + it for at in range(200) for it in range(100)], [7, 90_000]]
+    forms.append([40 * at + at * at % 31 for at in range(5_000)])
+    for one in forms:
+        for other in forms:
+            a, b = {*one}, {*other}
+            right = {"intersect": a & b, "unite": a | b, "subtract": a - b, "xor": a ^ b}
+            for name, ids in right.items():
+                found = value(db, f"SELECT idset_{name}(?, ?)", packed(db, one), packed(db, other))
+                assert found == packed(db, sorted(ids)), (name, one[:3], other[:3])
+    full, some = packed(db, range(400_000)), packed(db, [40 * at + at * at % 31 for at in range(10_000)])
+    assert len(value(db, "SELECT idset_subtract(?, ?)", full, some)) > len(full) + len(some) + 8500
+
+
 def test_sets_in_batches(db):
     """So many bytes, and so many sets, that they are combined before the last row."""
     db.execute("CREATE TABLE sets (n INT, ids BLOB)")
