@@ -17,7 +17,7 @@ unsafe extern "C" {
 /// The processor time of this process, in nanoseconds.
 fn now() -> i64 {
     let mut time = [0; 2];
-    // SAFETY: Linux has this function. Its clock 2 is that of the process, and it writes two numbers of 64 bits.
+    // SAFETY: Linux has this function. Clock 2 counts the time of the process, and the function writes two numbers of 64 bits.
     unsafe { clock_gettime(2, &mut time) };
     1_000_000_000 * time[0] + time[1]
 }

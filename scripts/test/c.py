@@ -77,7 +77,7 @@ PROGRAMS = {
     ID_SETS: "563 sets, 3031 refusals, 189 pairs\n",
     COLUMN_TABLES: "727 columns, 2605 refusals\n",
     RANKING: "all calls\n",
-    RANDOM: "300 cases\n",
+    RANDOM: "340 cases\n",
     PAGES: "all calls\n",
 }
 VECTORS = {ID_SETS: ["id_sets", "refused_id_sets", "combined_id_sets"], COLUMN_TABLES: ["columns", "refused_columns"]}

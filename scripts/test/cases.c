@@ -193,6 +193,64 @@ static void ranks(void)
         expect(best[k].score == right[k].score && best[k].id == right[k].id, "others are the best");
 }
 
+/* ---- sets of several chunks */
+
+enum { LONG = 400000, LONG_CASES = 40, WORK = 1100 };
+
+/* The sets that have each number, as bits, the ids of one, and the bytes of two, of their answer, and of what a call writes. */
+static uint8_t is_in[LONG], bytes[4][BITPACKING_SET_ROOM(LONG)];
+static uint32_t many[LONG], work[WORK];
+
+/* Draws the numbers of a set: parts with all numbers, none, few, and nearly all. */
+static void draw_long(uint8_t bit)
+{
+    size_t at = 0, end;
+
+    while (at < LONG) {
+        const uint32_t kind = drawn(4), gap = 2 + drawn(drawn(2) ? 6 : 900);
+
+        for (end = at + 1 + drawn(drawn(2) ? 3000 : 90000); at < end && at < LONG; at++)
+            if (kind == 0 || (kind > 1 && (drawn(gap) > 0) == (kind == 2)))
+                is_in[at] |= bit;
+    }
+}
+
+/* Packs the numbers whose bits a call wants. */
+static size_t packed_long(uint8_t *to, int of_first, int of_second, int of_both)
+{
+    const int wanted[] = {0, of_first, of_second, of_both};
+    uint32_t at, len = 0;
+
+    for (at = 0; at < LONG; at++)
+        if (wanted[is_in[at]])
+            many[len++] = base + at;
+    return (size_t)bitpacking_set_pack(many, len, to, sizeof bytes[0], NULL);
+}
+
+/* An operation on two sets writes the bytes of its ids, into as many as there are. */
+static void gives(uint32_t operation, int of_first, int of_second, int of_both)
+{
+    const size_t size = packed_long(bytes[2], of_first, of_second, of_both), needed = bitpacking_set_combine_room(&sets[0], &sets[1]);
+
+    expect(needed <= WORK, "too much work space");
+    expect(bitpacking_set_combine(operation, &sets[0], &sets[1], work, needed, bytes[3], size) == (ptrdiff_t)size, "another size");
+    expect(memcmp(bytes[3], bytes[2], size) == 0, "other bytes");
+    expect(bitpacking_set_combine(operation, &sets[0], &sets[1], work, needed, bytes[3], size - 1) == BITPACKING_SHORT, "too few bytes");
+}
+
+static void combines_long(void)
+{
+    memset(is_in, 0, sizeof is_in);
+    draw_long(1);
+    draw_long(2);
+    bitpacking_set_open(bytes[0], packed_long(bytes[0], 1, 0, 1), &sets[0]);
+    bitpacking_set_open(bytes[1], packed_long(bytes[1], 0, 1, 1), &sets[1]);
+    gives(BITPACKING_AND, 0, 0, 1);
+    gives(BITPACKING_OR, 1, 1, 1);
+    gives(BITPACKING_AND_NOT, 1, 0, 0);
+    gives(BITPACKING_XOR, 1, 1, 0);
+}
+
 int main(void)
 {
     static const uint32_t bases[] = {0, UINT32_C(0x80000000) - SPAN / 4, UINT32_MAX - SPAN};
@@ -213,6 +271,10 @@ int main(void)
         open_column(0, UINT64_C(1) << drawn(33));
         looks_between();
     }
-    printf("%d cases\n", CASES);
+    for (number = 0; number < LONG_CASES; number++) {
+        base = drawn(UINT32_MAX - LONG);
+        combines_long();
+    }
+    printf("%d cases\n", CASES + LONG_CASES);
     return failed;
 }

@@ -15,6 +15,8 @@ static uint8_t first_bytes[ROOM], other_bytes[ROOM];
 static uint32_t others[MOST + 2], both[MOST + 2], right[2 * MOST + 2];
 static size_t others_len, both_len;
 static uint64_t space[BITPACKING_QUERY_SPACE(OPERANDS)];
+static uint8_t answer_bytes[2 * ROOM], packed_set[2 * ROOM];
+static uint32_t room[8 * MOST + 16];
 
 static bitpacking_set opened(const uint32_t *given, size_t given_len, uint8_t *room)
 {
@@ -195,6 +197,37 @@ static void are(const bitpacking_set *views, size_t views_len, size_t in_all, co
     LEAVES(bitpacking_set_subtract(views, views_len, found, len), right, merged(one, one_len, two, two_len, 1, 0, 0), "other ids of the first");
 }
 
+/* An operation on two sets writes the set of the ids at `right`, into as much room as it needs, and into more. It refuses less. */
+static void gives(uint32_t operation, const bitpacking_set *one, const bitpacking_set *two, size_t len)
+{
+    const size_t needed = bitpacking_set_combine_room(one, two);
+    const ptrdiff_t wanted = bitpacking_set_pack(right, len, answer_bytes, 2 * ROOM, NULL);
+    const size_t bytes_len = (size_t)wanted;
+
+    expect(needed <= sizeof room / sizeof *room && wanted > 0, "too much work space");
+    room[needed] = 77;
+    packed_set[bytes_len] = 0xA5;
+    expect(bitpacking_set_combine(operation, one, two, room, needed, packed_set, bytes_len) == wanted, "another size is combined");
+    expect(memcmp(packed_set, answer_bytes, bytes_len) == 0 && packed_set[bytes_len] == 0xA5 && room[needed] == 77, "other bytes are combined");
+    memset(packed_set, 0, bytes_len);
+    expect(bitpacking_set_combine(operation, one, two, room, needed + 1, packed_set, 2 * ROOM) == wanted, "another size with more room");
+    expect(memcmp(packed_set, answer_bytes, bytes_len) == 0, "other bytes with more room");
+    expect(bitpacking_set_combine(operation, one, two, room, needed, packed_set, bytes_len - 1) == BITPACKING_SHORT, "a byte too few");
+    expect(bitpacking_set_combine(operation, one, two, room, needed, NULL, 0) == BITPACKING_SHORT, "no byte is enough");
+    if (needed > 0)
+        expect(bitpacking_set_combine(operation, one, two, room, needed - 1, packed_set, 2 * ROOM) == BITPACKING_SHORT, "too little space");
+}
+
+/* Each operation on two sets. */
+static void gives_each(const bitpacking_set *one, const uint32_t *its, size_t its_len, const bitpacking_set *two, const uint32_t *theirs,
+                       size_t theirs_len)
+{
+    gives(BITPACKING_AND, one, two, merged(its, its_len, theirs, theirs_len, 0, 1, 0));
+    gives(BITPACKING_OR, one, two, merged(its, its_len, theirs, theirs_len, 1, 1, 1));
+    gives(BITPACKING_AND_NOT, one, two, merged(its, its_len, theirs, theirs_len, 1, 0, 0));
+    gives(BITPACKING_XOR, one, two, merged(its, its_len, theirs, theirs_len, 1, 0, 1));
+}
+
 static void compares(const bitpacking_set *one, const bitpacking_set *two)
 {
     expect(bitpacking_set_is_disjoint(one, two) == (both_len == 0), "sets share other ids");
@@ -260,8 +293,59 @@ static void pairs(void)
     LEAVES(bitpacking_set_subtract(views, 1, found, len), values, count, "other ids of one set without others");
     compares(&views[0], &views[1]);
     compares(&views[1], &views[0]);
+    gives_each(&views[0], values, count, &views[1], others, others_len);
+    gives_each(&views[1], others, others_len, &views[0], values, count);
+    gives_each(&views[0], values, count, &views[0], values, count);
     in_place(&views[1], others, others_len, values, count);
     in_place(&views[0], values, count, others, others_len);
+}
+
+/* Sets of each form: how many ids they have, the first of them, how far each run of ids is from the next, and how many ids are in a run. */
+static const struct {
+    size_t len;
+    uint32_t first, step, run;
+} forms[] = {
+    {0, 0, 1, 1},          /* no ids */
+    {1, 70000, 1, 1},      /* one */
+    {127, 5, 1000, 1},     /* few */
+    {1000, 7, 65537, 1},   /* an array: one id in each chunk */
+    {9000, 3, 300, 1},     /* chunks of numbers */
+    {40000, 0, 5, 1},      /* chunks of bitmaps */
+    {100000, 9, 400, 100}, /* chunks of runs */
+    {140000, 60000, 1, 1}, /* no gap */
+    {65536, 65536, 1, 1},  /* one whole chunk */
+};
+
+/* Puts the ids of a form into an array. */
+static size_t put_form(size_t form, uint32_t *to)
+{
+    const uint32_t run = forms[form].run;
+    uint32_t i;
+
+    for (i = 0; i < forms[form].len; i++)
+        to[i] = forms[form].first + i / run * forms[form].step + i % run;
+    return forms[form].len;
+}
+
+/* Each operation on each two forms. Another number is no operation, whatever room there is, and nothing is written. */
+static void pairs_of_forms(void)
+{
+    bitpacking_set one = BITPACKING_SET_EMPTY, two = BITPACKING_SET_EMPTY;
+    const size_t len = sizeof forms / sizeof *forms;
+    uint8_t byte = 0xA5;
+    uint32_t item = 77;
+    size_t i, j;
+
+    for (i = 0; i < len; i++)
+        for (j = 0; j < len; j++) {
+            one = opened(values, count = put_form(i, values), first_bytes);
+            two = opened(others, others_len = put_form(j, others), other_bytes);
+            gives_each(&one, values, count, &two, others, others_len);
+        }
+    for (item = 0; item < 5; item++)
+        expect(bitpacking_set_combine(item, &one, &two, NULL, 0, &byte, 1) == BITPACKING_BAD_KIND, "a number of no operation");
+    expect(bitpacking_set_combine(BITPACKING_XOR - 1, &one, &two, &item, 1, &byte, 1) == BITPACKING_BAD_KIND, "a number below XOR");
+    expect(byte == 0xA5 && item == 5, "a number of no operation writes");
 }
 
 /* A view of zeros is the empty set, and a builder of zeros one without room. Nothing is read through a pointer to no items. */
@@ -279,6 +363,8 @@ static void empty(void)
     expect(bitpacking_set_retain(&set, NULL, 0) == 0 && bitpacking_set_remove(&set, NULL, 0) == 0, "an empty array");
     expect(bitpacking_set_intersect(NULL, 0, NULL, 0) == 0 && bitpacking_set_unite(NULL, 0, NULL, 0) == 0, "no set has ids");
     expect(bitpacking_set_subtract(NULL, 0, NULL, 0) == 0 && bitpacking_set_symmetric_difference(&set, &set, NULL, 0) == 0, "ids of no set");
+    expect(bitpacking_set_combine_room(&set, &set) == 0, "zeros need work space");
+    expect(bitpacking_set_combine(BITPACKING_OR, &set, &set, NULL, 0, &byte, 1) == 1 && byte == 0x80, "zeros have other bytes together");
     expect(bitpacking_set_count_common(NULL, 0) == 0 && bitpacking_set_count_any(NULL, 0) == 0, "no set has ids in common");
     expect(bitpacking_set_append(&set, NULL, 0, NULL, 0, &byte, 1, NULL) == 1 && byte == 0x80, "nothing after nothing");
     expect(bitpacking_set_open(NULL, 0, &set) == BITPACKING_TRUNCATED && set.bytes == NULL, "no bytes are a set");
@@ -294,6 +380,7 @@ int main(void)
 
     empty();
     query_errors();
+    pairs_of_forms();
     memset(packed, 0xA5, sizeof packed);
     while (next_row(column))
         if (table == REFUSED_BYTES) {
