@@ -13,6 +13,7 @@ mod few;
 pub mod gathered;
 mod measuring;
 pub mod order;
+pub mod range;
 mod runs;
 
 use crate::encoding::chunks::{array_len, chunks_len, write_array, write_chunks};

@@ -27,6 +27,7 @@ pub mod reserved;
 pub use appending::{append, append_to};
 pub use as_set::AsSet;
 pub use encoding::order::{first_unsorted, test_pushed};
+pub use encoding::range::{encode_range_to, encoded_range_len};
 pub use encoding::{encode, encode_to, encoded_len};
 pub use id_set::IdSet;
 pub use ids::Ids;

@@ -34,6 +34,6 @@ pub use Rattle.bitpack_slices.proofs.lemmas.bodies.PartsJoin.{blocks_read, join_
 pub use Rattle.bitpack_slices.proofs.lemmas.slices.BackLaws.{little_number, one_le_bytes, one_slice, slice_back}
 pub use Rattle.bitpack_slices.proofs.lemmas.bodies.OneBlocks.{append_same, blocks_back, both_blocks, slice_len_same}
 pub use Rattle.bitpack_slices.proofs.lemmas.bodies.RunBodies.{blocks_begin, few_small, runs_begun, runs_len, runs_pass, runs_read}
-pub use Rattle.bitpack_slices.proofs.lemmas.bodies.RunBounds.{bounds_back, bounds_rise, runs_back, some_bounds}
-pub use Rattle.bitpack_slices.proofs.lemmas.bodies.RunLaws.{pairs_rise, runs_most, runs_rise}
+pub use Rattle.bitpack_slices.proofs.lemmas.bodies.RunBounds.{bounds_back, bounds_rise, range_bounds, runs_back, some_bounds}
+pub use Rattle.bitpack_slices.proofs.lemmas.bodies.RunLaws.{drop_range, pairs_rise, range_rise, runs_most, runs_rise, take_range}
 pub use Rattle.bitpack_slices.proofs.lemmas.bytes.PairLaws.{numbers_back, pairs_back, pairs_below}

@@ -12,5 +12,7 @@ pub mod GatheredLaws
 pub mod LongFilled
 pub mod MeasureLaws
 pub mod PartsFilled
+pub mod RangeEntries
+pub mod RangeFilled
 pub mod RunLaws
 pub mod ToldLaws

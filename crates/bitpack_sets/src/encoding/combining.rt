@@ -64,7 +64,7 @@ fn most_bytes(operation: Operation, a: usize, b: usize) -> usize {
 }
 
 /// Writes the body of ids of one chunk, if there is one. Returns how many bytes it has.
-fn write_listed(ids: &[u32], out: &mut [u8; LONGEST_BLOCKS]) -> usize
+pub fn write_listed(ids: &[u32], out: &mut [u8; LONGEST_BLOCKS]) -> usize
     requires chunk { IsChunk ids.now }
     requires few { length ids.now ≤ 4096 }
     ensures small { result ≤ 2 * length ids.now }

@@ -208,7 +208,7 @@ impl<'a> Runs<'a> {
 
 /// Fills in numbers from one on.
 #[inline(always)]
-fn fill_range(first: u32, out: &mut [u32])
+pub fn fill_range(first: u32, out: &mut [u32])
     requires fits { first + length out.old ≤ 2 ^ 32 }
     ensures { out.new ≡ range_with_len first (length out.old) }
 {

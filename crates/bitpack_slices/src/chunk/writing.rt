@@ -29,7 +29,7 @@ pub fn write_runs(ids: &[u32], out: &mut [u8])
 }
 
 /// Writes the runs with these boundaries.
-pub(crate) fn write_bounds(bounds: &[u32], out: &mut [u8])
+pub fn write_bounds(bounds: &[u32], out: &mut [u8])
     requires size { length out.old ≡ 2 + 2 * length bounds.now }
     ensures { out.new ≡ runs bounds.now }
 {

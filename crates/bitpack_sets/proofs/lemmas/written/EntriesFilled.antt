@@ -118,7 +118,7 @@ module _ (ids left : List ℕ) (start prior index end sum e z run : ℕ) (keys e
             (fill_part bytes new end (end + size - end) (body (lows (take run left))) (concat (bodies (drop run left))) (concat (bodies ids)) next_body (omega arith) f);
       }
 
-no_parts : (left : List ℕ) → length left ≡ 0 → parts 65536 left ≡ []
+pub no_parts : (left : List ℕ) → length left ≡ 0 → parts 65536 left ≡ []
 unfolding parts
 no_parts [] h = refl
 no_parts (x ∷ left) h = absurd (omega arith)

@@ -31,20 +31,20 @@ lengths [] = refl
 lengths (p ∷ ps) = ap (λ (l : List ℕ). length (body p.1) ∷ l) (lengths ps)
 
 module _ (ids keys counts' sizes : List ℕ) (count chunks size : ℕ) (told : IsTold ids keys counts' sizes count chunks size) where
-  pub told_keys : length keys ≡ chunks
+  told_keys : length keys ≡ chunks
   told_keys = ap length told.keys_are ∙ length-map (parts 65536 ids) (λ chunk. chunk.0) ∙ sym told.chunks_are
 
   pub told_chunks : chunks ≤ count
   told_chunks = let most = parts_most 65536 ids in let a = told.chunks_are in let b = told.count_is in omega arith
 
-  all_counts : sum counts' ≡ count
-  all_counts = total_sum counts' ∙ ap total told.counts_are ∙ sym (join_len (parts 65536 ids)) ∙ ap length (join_parts 65536 ids) ∙ sym told.count_is
+  pub told_counts : sum counts' ≡ count
+  told_counts = total_sum counts' ∙ ap total told.counts_are ∙ sym (join_len (parts 65536 ids)) ∙ ap length (join_parts 65536 ids) ∙ sym told.count_is
 
   are_sizes : sizes ≡ map length (bodies ids)
   are_sizes = told.sizes_are ∙ lengths (parts 65536 ids)
 
-  all_sizes : sum sizes ≡ size
-  all_sizes = total_sum sizes ∙ ap total are_sizes ∙ sym (concat_len (bodies ids)) ∙ sym told.size_is
+  pub told_sizes : sum sizes ≡ size
+  told_sizes = total_sum sizes ∙ ap total are_sizes ∙ sym (concat_len (bodies ids)) ∙ sym told.size_is
 
   pub told_small : size ≤ 2 * count
   told_small =
@@ -54,16 +54,6 @@ module _ (ids keys counts' sizes : List ℕ) (count chunks size : ℕ) (told : I
       let a = told.count_is in
       let b = told.size_is in
       omega arith
-
-  pub told_counts : count ≤ 2 ^ 28 → (length counts' ≡ length keys) × (sum counts' ≤ 2 ^ 28)
-  told_counts few =
-      (ap length told.counts_are ∙ length-map (parts 65536 ids) (λ chunk. length chunk.1) ∙ sym told.chunks_are ∙ sym told_keys, (let all = all_counts in omega arith))
-
-  pub told_sizes : count ≤ 2 ^ 28 → (length sizes ≡ length keys) × (sum sizes ≤ 2 ^ 29)
-  told_sizes few = (
-    ap length told.sizes_are ∙ length-map (parts 65536 ids) (λ chunk. length (body chunk.1)) ∙ sym told.chunks_are ∙ sym told_keys,
-    (let all = all_sizes in let small = told_small in omega arith),
-  )
 
   module _ (many : 127 < count) (long : 4 * chunks ≤ count) where
     in_chunks_is : encoding ids ≡ in_chunks ids

@@ -67,7 +67,7 @@ unfolding bounds_after
 no_end = refl
 
 -- the boundaries of a range and of numbers after it
-range_bounds : (a n : ℕ) (ys : List ℕ) → 0 < n → boundaries (range_with_len a n ++ ys) ≡ a ∷ bounds_after (a + n - 1) ys
+pub range_bounds : (a n : ℕ) (ys : List ℕ) → 0 < n → boundaries (range_with_len a n ++ ys) ≡ a ∷ bounds_after (a + n - 1) ys
 unfolding boundaries
 range_bounds a zero ys h = absurd (omega arith)
 range_bounds a (suc n) ys h = let same : a + n ≡ a + suc n - 1 = omega arith in ap (λ (l : List ℕ). a ∷ l) (after_range a n ys ∙ ap (λ (k : ℕ). bounds_after k ys) same)

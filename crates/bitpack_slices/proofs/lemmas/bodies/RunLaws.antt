@@ -171,7 +171,7 @@ none_left (Some x) h = absurd (h x refl)
 pub pairs_rise : (position : ℕ) (bytes : List ℕ) → EachByte bytes → first_fall position (pairs_of bytes) ≡ None → IsRising 0 65536 (pairs_of bytes)
 pairs_rise position bytes are h = rises_from position 65536 (pairs_of bytes) (pairs_below bytes are) h
 
-range_rise : (a n : ℕ) → IsRising a (a + n) (range_with_len a n)
+pub range_rise : (a n : ℕ) → IsRising a (a + n) (range_with_len a n)
 range_rise a zero = omega arith
 range_rise a (suc n) = let same : a + 1 + n ≡ a + suc n = omega arith in (omega arith, subst (λ (high : ℕ). IsRising (a + 1) high (range_with_len (a + 1) n)) same (range_rise (a + 1) n))
 
@@ -205,7 +205,7 @@ or_moved false false c = refl
 
 -- ---- some numbers of a run
 
-drop_range : (a n left : ℕ) → left ≤ n → drop left (range_with_len a n) ≡ range_with_len (a + left) (n - left)
+pub drop_range : (a n left : ℕ) → left ≤ n → drop left (range_with_len a n) ≡ range_with_len (a + left) (n - left)
 drop_range a n zero h =
     let same : a ≡ a + zero = omega arith in
     let all : n ≡ n - zero = omega arith in
@@ -216,7 +216,7 @@ drop_range a (suc n) (suc left) h =
     let few : n - left ≡ suc n - suc left = omega arith in
     drop_range (a + 1) n left (omega arith) ∙ ap (λ (k : ℕ). range_with_len k (n - left)) same ∙ ap (range_with_len (a + suc left)) few
 
-take_range : (a n k : ℕ) → k ≤ n → take k (range_with_len a n) ≡ range_with_len a k
+pub take_range : (a n k : ℕ) → k ≤ n → take k (range_with_len a n) ≡ range_with_len a k
 take_range a n zero h = refl
 take_range a zero (suc k) h = absurd (omega arith)
 take_range a (suc n) (suc k) h = ap (λ (l : List ℕ). a ∷ l) (take_range (a + 1) n k (omega arith))
