@@ -108,7 +108,7 @@ fn is_sparse(set: &IdSet, room: usize) -> bool {
 }
 
 /// The indexes of the two shortest sets, or 0 twice if there is only one set.
-fn shortest<S: AsSet>(sets: &[S]) -> (usize, usize)
+pub(crate) fn shortest<S: AsSet>(sets: &[S]) -> (usize, usize)
     requires { 0 < length sets.now }
     ensures within { (result.0 < length sets.now) × (result.1 < length sets.now) }
 {
@@ -128,7 +128,12 @@ fn shortest<S: AsSet>(sets: &[S]) -> (usize, usize)
 }
 
 /// Writes the ids that all sets have: those that two have, without those that another lacks. Returns `None` if there is no room for the first.
-fn intersect_to<S: AsSet>(sets: &[S], a: usize, b: usize, out: &mut [u32]) -> Option<usize>
+pub(crate) fn intersect_to<S: AsSet>(
+    sets: &[S],
+    a: usize,
+    b: usize,
+    out: &mut [u32],
+) -> Option<usize>
     requires within { (a < length sets.now) × (b < length sets.now) }
     ensures len { IfSome result (λ len. len ≡ length (answer_all Operation.And (map S.its_ids sets.now))) }
     ensures ids { IfSome result (λ len. take len out.new ≡ answer_all Operation.And (map S.its_ids sets.now)) }
@@ -144,7 +149,7 @@ fn intersect_to<S: AsSet>(sets: &[S], a: usize, b: usize, out: &mut [u32]) -> Op
 
 /// Writes the ids that the first set has alone: those that the second lacks, without those that another has. Returns `None` if there
 /// is no room for the first.
-fn subtract_to<S: AsSet>(sets: &[S], out: &mut [u32]) -> Option<usize>
+pub(crate) fn subtract_to<S: AsSet>(sets: &[S], out: &mut [u32]) -> Option<usize>
     requires some { 2 ≤ length sets.now }
     ensures len { IfSome result (λ len. len ≡ length (answer_all Operation.AndNot (map S.its_ids sets.now))) }
     ensures ids { IfSome result (λ len. take len out.new ≡ answer_all Operation.AndNot (map S.its_ids sets.now)) }
@@ -158,7 +163,7 @@ fn subtract_to<S: AsSet>(sets: &[S], out: &mut [u32]) -> Option<usize>
 }
 
 /// Which set is taken first: the shortest, if it may be.
-fn first_of<S: AsSet>(operation: Operation, sets: &[S]) -> usize
+pub(crate) fn first_of<S: AsSet>(operation: Operation, sets: &[S]) -> usize
     requires { 0 < length sets.now }
     ensures within { result < length sets.now }
     ensures may { (result ≡ 0) ⊎ (operation ≡ Operation.And) }

@@ -8,67 +8,40 @@ ghost use Rattle.bitpack_slices.specs.Operations.{answer, apply};
 ghost use Rattle.bitpack_slices.specs.Reads.{has};
 ghost use Rattle.bitpack_sets.specs.Opened.{ids};
 ghost use Rattle.bitpack_sets.specs.Sets.{IsSet};
-ghost use Rattle.bitpack_queries.specs.Gathered.{Fills, PutsSet};
+ghost use Rattle.bitpack_queries.specs.Gathered.{Fills};
 ghost use Rattle.bitpack_sets.specs.Written.{places};
 ghost use Rattle.bitpack_queries.specs.Pairs.{left, positions_left};
 
 use crate::combining::combine_to;
 use crate::combining_sets::gathering::gather;
+use crate::gathered::write_ids;
 use crate::pairing::Pair;
+use bitpack_sets::IdSet;
 use bitpack_sets::chunked::chunks_of;
-use bitpack_sets::encoding::chunks::chunks_len;
-use bitpack_sets::encoding::gathered::write_gathered;
 use bitpack_sets::encoding::order::LONGEST_SET;
 use bitpack_sets::few::MOST_FEW;
 use bitpack_sets::id_set::ROOM;
-use bitpack_sets::{IdSet, encode_to, encoded_len};
 use bitpack_slices::{Operation, SetError};
 
 /// An answer of at most 256 ids, or at most 3,840, is unpacked and encoded.
 const MOST_FEW_LISTED: usize = 256;
 
-const MOST_LISTED: usize = 3840;
+pub(crate) const MOST_LISTED: usize = 3840;
 
 /// The room for these, and for 256 more: with less it takes longer to unpack.
-const FEW_ROOM: usize = 512;
+pub(crate) const FEW_ROOM: usize = 512;
 
-const LISTED_ROOM: usize = 4096;
-
-/// Writes the encoding of the set that an operation on two sets gives at the start of the slice, and returns its length in bytes. Allocates nothing.
-///
-/// `room` is work space: four items for each chunk of both sets, or for each id of a set that is not in chunks. The answer has at most
-/// 268,435,456 ids: with more it fails with `TooLong`. It fails with `Short` if the slice is too short for the set, or the work space. Bytes after
-/// the set may change, and any byte if it fails.
-pub fn combine_set_to(
-    operation: Operation,
-    a: &IdSet,
-    b: &IdSet,
-    room: &mut [u32],
-    out: &mut [u8],
-) -> Result<usize, SetError>
-    // claim: sets/25 writes the encoding of the ids of an operation on two sets; needs work space for their chunks; other bytes may change
-    ensures { PutsSet (length room.old) (4 * (places (ids a.now) + places (ids b.now))) (answer operation (ids a.now) (ids b.now))
-        result out.old out.new }
-{
-    if room.len() < room_len(a, b) {
-        return Err(SetError::Short);
-    }
-    let len = write(operation, a, b, room, out)?;
-    if len > out.len() {
-        return Err(SetError::Short);
-    }
-    Ok(len)
-}
+pub(crate) const LISTED_ROOM: usize = 4096;
 
 /// How much work space two sets need.
-fn room_len(a: &IdSet, b: &IdSet) -> usize
+pub(crate) fn room_len(a: &IdSet, b: &IdSet) -> usize
     ensures { result ≡ 4 * (places (ids a.now) + places (ids b.now)) }
 {
     4 * (a.places() + b.places())
 }
 
 /// Writes the encoding of the set that an operation on two sets gives, if there is room for it. Returns its length in bytes, or `TooLong`.
-fn write(
+pub(crate) fn write(
     operation: Operation,
     a: &IdSet,
     b: &IdSet,
@@ -129,23 +102,14 @@ fn write_pair(
     let (keys, others) = room.split_at_mut(places);
     let (counts, sizes) = others.split_at_mut(places);
     let gathered = gather(pair, keys, counts, sizes, out);
-    let (count, chunks) = (gathered.count, gathered.chunks);
-    if count > LONGEST_SET {
-        return Err(SetError::TooLong(count));
-    }
-    if count <= MOST_FEW {
+    if gathered.count <= MOST_FEW {
         let mut ids = [0; FEW_ROOM];
         return write_unpacked(operation, a, b, &mut ids, out);
     }
-    if count < 4 * chunks {
-        return write_unpacked(operation, a, b, room, out);
+    match gathered.write(keys, counts, sizes, out) {
+        Some(written) => written,
+        None => write_unpacked(operation, a, b, room, out),
     }
-    let len = chunks_len(count, chunks, gathered.size);
-    if len <= out.len() {
-        let (keys, counts, sizes) = (&keys[..chunks], &counts[..chunks], &sizes[..chunks]);
-        write_gathered(count, gathered.size, keys, counts, sizes, &mut out[..len]);
-    }
-    Ok(len)
 }
 
 /// Writes the encoding of the set after it unpacked its ids, as `write`. The work space has room for them.
@@ -161,9 +125,5 @@ fn write_unpacked(
     ensures { Fills (answer operation (ids a.now) (ids b.now)) result out.old out.new }
 {
     let count = combine_to(operation, a, b, room).unwrap();
-    let len = encoded_len(&room[..count]).unwrap();
-    if len <= out.len() {
-        encode_to(&room[..count], out).unwrap();
-    }
-    Ok(len)
+    write_ids(&room[..count], out)
 }

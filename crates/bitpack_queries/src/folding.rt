@@ -236,7 +236,7 @@ fn combine_words(
 
 /// Clears only the bits of these high bytes.
 #[inline(always)]
-fn clear_highs(highs: &[u32], words: &mut [u64; 1024], others: &mut [u64; 1024])
+pub(crate) fn clear_highs(highs: &[u32], words: &mut [u64; 1024], others: &mut [u64; 1024])
     requires { IsRising 0 256 highs.now }
     ensures own { (x : ℕ) → x < 65536 → has (x / 256) highs.now ≡ true → has_bit words.new x ≡ false }
     ensures rest { (x : ℕ) → x < 65536 → has (x / 256) highs.now ≡ false → has_bit words.new x ≡ has_bit words.old x }

@@ -6,6 +6,7 @@ ghost use Rattle.bitpack_slices.specs.Reads.{ids_from};
 ghost use Rattle.bitpack_queries.specs.Queries.{FindsFault, IsLoaded, answer_of, fault_from, is_found, most_waiting, query_fault};
 
 mod members;
+pub(crate) mod packing;
 mod running;
 pub(crate) mod testing;
 mod walking;

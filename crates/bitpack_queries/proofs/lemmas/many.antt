@@ -1,4 +1,6 @@
 -- The answer of many sets, key by key.
+pub mod BodyLaws
 pub mod FoldLaws
 pub mod KeysLaws
+pub mod MostKeys
 pub mod PickLaws

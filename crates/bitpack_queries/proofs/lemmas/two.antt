@@ -2,6 +2,7 @@
 pub mod AnswerLaws
 pub mod CountLaws
 pub mod GatherLaws
+pub mod GatheredLaws
 pub mod LoneLaws
 pub mod RetainedLaws
 pub mod StepLaws

@@ -1,27 +1,17 @@
 //! Writes the bodies of the chunks that an operation on two sets gives, and remembers what their directory has.
 
-ghost use Rattle.std.specs.Prelude.{◌≡◌, ◌+◌, ◌*◌, ◌^◌, ◌<◌, ◌≤◌, [], IfSome, length, take};
-ghost use Rattle.std.specs.List.{concat};
-ghost use Rattle.bitpack_slices.specs.Bodies.{parts};
+ghost use Rattle.std.specs.Prelude.{◌≡◌, ◌+◌, ◌*◌, ◌^◌, ◌<◌, ◌≤◌, [], IfSome, length};
 ghost use Rattle.bitpack_slices.specs.Follows.{Follow};
 ghost use Rattle.bitpack_slices.specs.Operations.{those};
 ghost use Rattle.bitpack_sets.specs.Sets.{body};
-ghost use Rattle.bitpack_sets.specs.Written.{bodies};
-ghost use Rattle.bitpack_queries.specs.Gathered.{counts_of, keys_of, sizes_of};
+ghost use Rattle.bitpack_queries.specs.Gathered.{IsGathered};
 ghost use Rattle.bitpack_queries.specs.Pairs.{IsMeeting, left, meets, positions_left};
 
+use crate::gathered::{Gathered, put_body};
 use crate::pairing::{Meeting, Pair};
 use bitpack_sets::encoding::combining::{MOST_LISTED, write_combined};
 use bitpack_slices::bitmap::writing::LONGEST_BLOCKS;
 use bitpack_slices::combined::{retains_left, retains_right};
-
-/// What is known of a set in chunks before its directory is written: how many ids and chunks it has, and how many bytes the bodies have.
-#[derive(Clone, Copy)]
-pub(crate) struct Gathered {
-    pub(crate) count: usize,
-    pub(crate) chunks: usize,
-    pub(crate) size: usize,
-}
 
 /// Writes the bodies of the set that a pair gives, if there is room for all. Of each chunk it writes the key, how many ids it has, and how many
 /// bytes its body.
@@ -35,35 +25,17 @@ pub(crate) fn gather(
     requires keys { positions_left pair ≤ length keys.old }
     requires counts { positions_left pair ≤ length counts.old }
     requires sizes { positions_left pair ≤ length sizes.old }
-    ensures count { result.count ≡ length (those (2 ^ 32) (left pair.entry)) }
-    ensures chunks { result.chunks ≡ length (parts (2 ^ 16) (those (2 ^ 32) (left pair.entry))) }
     ensures most { result.chunks ≤ positions_left pair.entry }
-    ensures keys { take result.chunks keys.new ≡ keys_of (those (2 ^ 32) (left pair.entry)) }
-    ensures counts { take result.chunks counts.new ≡ counts_of (those (2 ^ 32) (left pair.entry)) }
-    ensures sizes { take result.chunks sizes.new ≡ sizes_of (those (2 ^ 32) (left pair.entry)) }
-    ensures bodies { Follow (concat (bodies (those (2 ^ 32) (left pair.entry)))) out.old out.new 0 result.size }
+    ensures gathered { IsGathered (those (2 ^ 32) (left pair.entry)) keys.new counts.new sizes.new out.new result.count result.chunks result.size }
 {
     let mut ids = [0; MOST_LISTED];
     let mut body = [0; LONGEST_BLOCKS];
-    let mut count = 0;
-    let mut chunks = 0;
-    let mut size = 0;
+    let mut gathered = Gathered::new();
     while let Some(meeting) = pair.next() {
-        let (own, len) = put_meeting(&pair, meeting, &mut ids, &mut body, out, size);
-        if own > 0 {
-            keys[chunks] = meeting.key;
-            counts[chunks] = own as u32;
-            sizes[chunks] = len as u32;
-            chunks += 1;
-            count += own;
-            size += len;
-        }
+        let (own, len) = put_meeting(&pair, meeting, &mut ids, &mut body, out, gathered.size);
+        gathered.add(meeting.key, own, len, keys, counts, sizes);
     }
-    Gathered {
-        count,
-        chunks,
-        size,
-    }
+    gathered
 }
 
 /// Writes the body of the ids of a key that are in the answer, if there is room. Returns how many these are, and how many bytes the body has.
@@ -92,18 +64,6 @@ fn put_meeting(
     let (count, size) = write_combined(pair.operation, meeting.key, a, b, ids, room);
     put_body(&room[..size], out, at);
     (count, size)
-}
-
-/// Writes a body, if there is room.
-#[inline(always)]
-fn put_body(body: &[u8], out: &mut [u8], at: usize)
-    requires start { at ≤ 2 ^ 33 }
-    ensures { Follow body.now out.old out.new at (at + length body.now) }
-{
-    let end = at + body.len();
-    if end <= out.len() {
-        out[at..end].copy_from_slice(body);
-    }
 }
 
 /// How many ids a chunk has that is the answer's chunk too, and its body: only one set has ids of the key.

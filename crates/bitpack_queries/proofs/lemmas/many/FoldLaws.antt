@@ -1,5 +1,5 @@
 -- Sets that are folded from the first to the last.
-use Rattle.std.proofs.Common.{◌≡◌, ℕ, zero, suc, ◌+◌, ◌/◌, ◌<◌, ◌≤◌, ◌≢◌, ◌==◌, ◌&&◌, ◌||◌, ◌⊎◌, not, inl, inr, Bool, true, false, List, [], ◌∷◌, map, length, get_or, set, take, refl, sym, ap, ◌∙◌, arith}
+use Rattle.std.proofs.Common.{◌≡◌, ℕ, zero, suc, ◌+◌, ◌/◌, ◌^◌, ◌<◌, ◌≤◌, ◌≢◌, ◌==◌, ◌&&◌, ◌||◌, ◌⊎◌, not, inl, inr, Bool, true, false, List, [], ◌∷◌, map, length, get_or, set, take, refl, sym, ap, ◌∙◌, arith}
 use Rattle.std.proofs.Math.Bool.{and-false, and-true, or-false}
 use Rattle.std.specs.List.{fold}
 use Rattle.std.proofs.lemmas.Bool.{cases_eq, cases_lt, false≢true, true≢false}
@@ -7,11 +7,13 @@ use Rattle.std.proofs.lemmas.Bool.Decides.{nat_tests}
 use Rattle.std.proofs.lemmas.List.{get_or-map, get_or-set_other, get_or-set_same, length-map, length-set, set-get_or, take_all}
 use Rattle.std.proofs.lemmas.List.Sums.{fold_more}
 use Rattle.bitpack_queries.proofs.lemmas.two.AnswerLaws.{listed_has}
-use Rattle.bitpack_slices.proofs.ForCallers.{map_zero, retained}
+use Rattle.bitpack_slices.proofs.ForCallers.{map_zero, retained, those_rise}
+use Rattle.bitpack_slices.specs.Bodies.{IsRising}
 use Rattle.bitpack_slices.specs.Bitmaps.{has_high}
 use Rattle.bitpack_queries.specs.Folds.{high_of, swapped}
 use Rattle.bitpack_slices.specs.Operations.{apply, those}
-use Rattle.bitpack_queries.specs.Operations.{folded}
+use Rattle.bitpack_queries.specs.Operations.{answer_all, folded}
+use Rattle.bitpack_sets.specs.Sets.{IsSet}
 use Rattle.bitpack_slices.specs.Reads.{has}
 use Rattle.bitpack_slices.specs.declared.operation.Operation.{Operation}
 use Rattle.bitpack_slices.specs.declared.operation.Operation.TheVariants.{And, Or, AndNot, Xor}
@@ -227,3 +229,11 @@ pub all_taken : (operation : Operation) (x first i : ℕ) (sets : List (List ℕ
 all_taken operation x first i sets h =
     let long = swapped_len first sets in
     ap (folded operation) (take_all i (map (has x) (swapped first sets)) (omega (arith, length-map (swapped first sets) (has x))))
+
+-- ---- the answer
+
+pub answer_rises : (operation : Operation) (sets : List (List ℕ)) → IsRising 0 (2 ^ 32) (answer_all operation sets)
+answer_rises operation sets = those_rise (λ x. folded operation (map (has x) sets)) (2 ^ 32)
+
+pub answer_is_set : (operation : Operation) (sets : List (List ℕ)) → length (answer_all operation sets) ≤ 2 ^ 28 → IsSet (answer_all operation sets)
+answer_is_set operation sets few = record { few = few; rising = answer_rises operation sets }

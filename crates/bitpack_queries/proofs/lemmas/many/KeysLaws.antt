@@ -12,6 +12,7 @@ use Rattle.bitpack_slices.specs.Bitmaps.{bitmap_numbers, has_bit}
 use Rattle.bitpack_queries.specs.Folds.{found, has_number, ids_of_keys, joined, swapped}
 use Rattle.bitpack_slices.specs.Operations.{those}
 use Rattle.bitpack_queries.specs.Operations.{answer_all, folded}
+use Rattle.bitpack_queries.specs.Pairs.{IsPart}
 use Rattle.bitpack_slices.specs.Reads.{has}
 use Rattle.bitpack_slices.specs.Bodies.{IsRising}
 use Rattle.bitpack_slices.specs.declared.operation.Operation.{Operation}
@@ -235,3 +236,74 @@ keys_counted count count' base highs words answer before after so split e =
     let cut = ap length split ∙ length-append (ids_of_keys highs words base) (those (2 ^ 32) after)
     ∙ ap (λ (n : ℕ). n + length (those (2 ^ 32) after)) (length-map (those 524288 (found highs words)) (λ i. base * 65536 + i)) in
     record { rest = omega arith }
+
+-- ---- one key after the other
+
+-- the bitmaps tell what is left from a key on of eight keys, and there is nothing after these up to the next multiple of 8
+pub record AreKeys (operation : Operation) (first : ℕ) (sets highs words : List (List ℕ)) (key next : ℕ) : Type 0 where
+  pub later : key / 8 * 8 + 8 ≤ next
+  pub most : next ≤ 65536
+  pub whole : next / 8 * 8 ≡ next
+  pub own : (x : ℕ) → key ≤ x / 65536 → x / 65536 < key / 8 * 8 + 8
+      → folded operation (map (has x) (swapped first sets)) ≡ has_number (get_or highs (x / 65536 % 8) []) (get_or words (x / 65536 % 8) []) (x % 65536)
+  pub none : (x : ℕ) → key / 8 * 8 + 8 ≤ x / 65536 → x / 65536 < next → folded operation (map (has x) (swapped first sets)) ≡ false
+
+pub keys_combined : (operation : Operation) (first base next : ℕ) (sets highs words : List (List ℕ)) → base / 8 * 8 ≡ base → base + 8 ≤ next → next ≤ 65536
+    → ((i : ℕ) → i < 524288 → found highs words i ≡ folded operation (map (has (base * 65536 + i)) (swapped first sets)))
+    → ((x : ℕ) → base + 8 ≤ x / 65536 → x / 65536 < next → folded operation (map (has x) (swapped first sets)) ≡ false)
+    → AreKeys operation first sets highs words base (next / 8 * 8)
+keys_combined operation first base next sets highs words whole later most own none = record {
+  later = omega arith;
+  most = omega arith;
+  whole = omega arith;
+  own = λ x up down.
+      let i : ℕ = x - base * 65536 in
+      let is : base * 65536 + i ≡ x = omega arith in
+      let key : i / 65536 ≡ x / 65536 % 8 = omega arith in
+      let low : i % 65536 ≡ x % 65536 = omega arith in
+      sym (ap (λ (n : ℕ). folded operation (map (has n) (swapped first sets))) is) ∙ sym (own i (omega arith)) ∙ found_key highs words (x / 65536 % 8) i key
+      ∙ ap (has_number (get_or highs (x / 65536 % 8) []) (get_or words (x / 65536 % 8) [])) low;
+  none = λ x up down. none x (omega arith) (omega arith);
+}
+
+-- the key is the first that is left
+pub key_part : (operation : Operation) (first key next : ℕ) (sets highs words : List (List ℕ)) → AreKeys operation first sets highs words key next → key < 65536
+    → IsPart key (has_number (get_or highs (key % 8) []) (get_or words (key % 8) [])) (left_from operation first sets key) (left_from operation first sets (key + 1))
+key_part operation first key next sets highs words are small = record {
+  small = small;
+  lower = λ x h. below operation first key x sets h;
+  own = λ x e.
+      let k : x / 65536 % 8 ≡ key % 8 = omega arith in
+      above operation first key x sets (omega arith) ∙ are.own x (omega arith) (omega arith)
+      ∙ ap (λ (n : ℕ). has_number (get_or highs n []) (get_or words n []) (x % 65536)) k;
+  passed = λ x h. below operation first (key + 1) x sets (omega arith);
+  higher = λ x h. above operation first key x sets (omega arith) ∙ sym (above operation first (key + 1) x sets (omega arith));
+}
+
+-- nothing is left between the last of eight keys and the next one
+pub keys_end : (operation : Operation) (first key next : ℕ) (sets highs words : List (List ℕ)) → AreKeys operation first sets highs words key next → key % 8 ≡ 7
+    → those (2 ^ 32) (left_from operation first sets (key + 1)) ≡ those (2 ^ 32) (left_from operation first sets next)
+keys_end operation first key next sets highs words are last =
+    let after = are.later in
+    those_same (2 ^ 32) _ _ (λ x small. elim (cases_lt (x / 65536) (key + 1)) [
+      | inl lt ↦ below operation first (key + 1) x sets lt ∙ sym (below operation first next x sets (omega arith))
+      | inr ge ↦ elim (cases_lt (x / 65536) next) [
+        | inl less ↦ above operation first (key + 1) x sets ge ∙ are.none x (omega arith) less ∙ sym (below operation first next x sets less)
+        | inr more ↦ above operation first (key + 1) x sets ge ∙ sym (above operation first next x sets more)
+      ]
+    ])
+
+-- the bitmap of a key that was passed may change
+pub keys_passed : (operation : Operation) (first key next : ℕ) (sets highs words : List (List ℕ)) (ws : List ℕ) → AreKeys operation first sets highs words key next → key % 8 ≢ 7
+    → AreKeys operation first sets highs (set words (key % 8) ws) (key + 1) next
+keys_passed operation first key next sets highs words ws are inner =
+    let after = are.later in
+    record {
+      later = omega arith;
+      most = are.most;
+      whole = are.whole;
+      own = λ x up down.
+          are.own x (omega arith) (omega arith)
+          ∙ ap (λ (l : List ℕ). has_number (get_or highs (x / 65536 % 8) []) l (x % 65536)) (sym (get_or-set_other words (key % 8) (x / 65536 % 8) ws [] (λ e. absurd (omega arith))));
+      none = λ x up down. are.none x (omega arith) (omega arith);
+    }

@@ -57,7 +57,7 @@ second_false : (a b : Bool) → b ≡ false → (a && b) ≡ false
 second_false true b e = e
 second_false false b e = refl
 
-tests_same : (a b x : ℕ) (c : Bool) → a ≤ b → (a ≤ x → x < b → c ≡ false) → (leb a x && c) ≡ (leb b x && c)
+pub tests_same : (a b x : ℕ) (c : Bool) → a ≤ b → (a ≤ x → x < b → c ≡ false) → (leb a x && c) ≡ (leb b x && c)
 tests_same a b x c h none = elim (cases_lt x a) [
   | inl lt ↦ (let less : x < b = omega arith in ap (λ t. t && c) (lt-leb a x lt ∙ sym (lt-leb b x less)))
   | inr ge ↦ elim (cases_lt x b) [

@@ -77,6 +77,14 @@ part_first key test before after part =
     (λ x h. part.passed x (omega arith))
     (λ x a b. part.higher x (omega arith))
 
+-- how many ids these are
+pub part_len : (key : ℕ) (test before after : ℕ → Bool) → IsPart key test before after
+    → length (those (2 ^ 32) before) ≡ length (those 65536 test) + length (those (2 ^ 32) after)
+part_len key test before after part =
+    ap length (part_first key test before after part)
+    ∙ length-append (map (λ i. key * 65536 + i) (those 65536 test)) (those (2 ^ 32) after)
+    ∙ ap (λ (n : ℕ). n + length (those (2 ^ 32) after)) (length-map (those 65536 test) (λ i. key * 65536 + i))
+
 -- so far this part of the answer is written
 pub record Written (out : List ℕ) (at : ℕ) (all : List ℕ) (more : ℕ → Bool) : Type 0 where
   pub within : at ≤ length out
@@ -96,9 +104,7 @@ pub counted_more : (count count' key : ℕ) (all : List ℕ) (test before after 
     → count' ≡ count + length (those 65536 test) → Counted count' all after
 counted_more count count' key all test before after so part e =
     let rest = so.rest in
-    let cut = ap length (part_first key test before after part)
-    ∙ length-append (map (λ i. key * 65536 + i) (those 65536 test)) (those (2 ^ 32) after)
-    ∙ ap (λ (n : ℕ). n + length (those (2 ^ 32) after)) (length-map (those 65536 test) (λ i. key * 65536 + i)) in
+    let cut = part_len key test before after part in
     record { rest = omega arith }
 
 pub counted_so : (out : List ℕ) (at : ℕ) (all : List ℕ) (more : ℕ → Bool) → Written out at all more → Counted at all more

@@ -11,7 +11,7 @@ head_len true x xs = omega arith
 head_len false x xs = omega arith
 
 -- one number more
-one_more : (p : ℕ → Bool) (x : ℕ) (xs : List ℕ) → length (filter p (x ∷ xs)) ≡ cond (p x) 1 0 + length (filter p xs)
+pub one_more : (p : ℕ → Bool) (x : ℕ) (xs : List ℕ) → length (filter p (x ∷ xs)) ≡ cond (p x) 1 0 + length (filter p xs)
 one_more p x xs = head_len (p x) x (filter p xs)
 
 either_bit : (a b : Bool) → cond (a || b) 1 0 + cond (a && b) 1 0 ≡ cond a 1 0 + cond b 1 0

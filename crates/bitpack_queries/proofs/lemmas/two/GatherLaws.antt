@@ -1,8 +1,9 @@
 -- The chunks of an answer, one after the other.
-use Rattle.std.proofs.Common.{MatchOption, None, Option, ◌≡◌, ℕ, ◌+◌, ◌*◌, ◌-◌, ◌^◌, ◌<◌, ◌≤◌, Bool, false, List, [], ◌∷◌, ◌++◌, map, length, take, refl, sym, ap, ◌∙◌, arith, subst, append-nil, append_assoc, length-append}
+use Rattle.std.proofs.Common.{MatchOption, None, Option, ◌≡◌, ℕ, ◌+◌, ◌*◌, ◌-◌, ◌^◌, ◌<◌, ◌≤◌, Bool, false, List, [], ◌∷◌, ◌++◌, map, length, take, refl, sym, ap, ◌∙◌, arith, inl, inr, subst, append-nil, append_assoc}
 use Rattle.std.specs.List.{concat, filter, range_with_len}
 use Rattle.std.proofs.Math.ListN.{set}
-use Rattle.std.proofs.lemmas.List.{length-map, nil_from_length, take_more_set}
+use Rattle.std.proofs.lemmas.Bool.{cases_lt}
+use Rattle.std.proofs.lemmas.List.{nil_from_length, take_more_set}
 use Rattle.bitpack_slices.proofs.ForCallers.{IsLeft, join, join_parts, left_as, left_first, left_more, left_none, none_pass, parts_are, parts_join, those_raised, those_rise, those_split}
 use Rattle.bitpack_slices.specs.Bodies.{IsRising, parts}
 use Rattle.bitpack_slices.specs.Follows.{Follow}
@@ -10,12 +11,12 @@ use Rattle.bitpack_slices.specs.Operations.{answer, apply, those}
 use Rattle.bitpack_slices.specs.Reads.{has}
 use Rattle.bitpack_slices.specs.declared.operation.Operation.{Operation}
 use Rattle.bitpack_slices.specs.declared.set_error.SetError.{SetError}
-use Rattle.bitpack_sets.proofs.ForCallers.{IsTold, set_not_refused}
+use Rattle.bitpack_sets.proofs.ForCallers.{set_not_refused}
 use Rattle.bitpack_sets.specs.Sets.{IsSet, body}
 use Rattle.bitpack_sets.specs.Written.{bodies, refusal}
-use Rattle.bitpack_queries.specs.Gathered.{counts_of, keys_of, sizes_of}
+use Rattle.bitpack_queries.specs.Gathered.{IsGathered}
 use Rattle.bitpack_queries.specs.Pairs.{IsPart}
-use Rattle.bitpack_queries.proofs.lemmas.two.AnswerLaws.{part_first}
+use Rattle.bitpack_queries.proofs.lemmas.two.AnswerLaws.{part_first, part_len}
 
 raised_rise : (k low high : ℕ) (xs : List ℕ) → IsRising low high xs → IsRising (k + low) (k + high) (map (λ i. k + i) xs)
 raised_rise k low high [] r = omega arith
@@ -72,9 +73,6 @@ no_chunk key test before after part none =
 -- what is told of the chunks so far, and of those that are left
 abbrev TellsOf : (f : ℕ × List ℕ → ℕ) → ℕ → List ℕ → List (ℕ × List ℕ) → List (ℕ × List ℕ) → Type 0
 TellsOf f index told all left = take index told ++ map f left ≡ map f all
-
-told_start : (f : ℕ × List ℕ → ℕ) (told : List ℕ) (all : List (ℕ × List ℕ)) → TellsOf f 0 told all all
-told_start f told all = refl
 
 told_more : (f : ℕ × List ℕ → ℕ) (index : ℕ) (told : List ℕ) (x : ℕ) (all left later : List (ℕ × List ℕ)) (chunk : ℕ × List ℕ) → index < length told → x ≡ f chunk
     → left ≡ chunk ∷ later → TellsOf f index told all left → TellsOf f (index + 1) (set told index x) all later
@@ -144,9 +142,7 @@ gather_more number test before after all old mid out keys counts sizes count chu
     let next : parts (2 ^ 16) (those (2 ^ 32) before) ≡ (number, numbers) ∷ parts (2 ^ 16) (those (2 ^ 32) after) =
     next_chunk number test before after part (subst (λ (n : ℕ). 0 < n) is some) in
     let more : length (parts (2 ^ 16) (those (2 ^ 32) before)) ≡ length ((number, numbers) ∷ parts (2 ^ 16) (those (2 ^ 32) after)) = ap length next in
-    let first = ap length (part_first number test before after part)
-    ∙ length-append (map (λ i. number * 65536 + i) numbers) (those (2 ^ 32) after)
-    ∙ ap (λ (n : ℕ). n + length (those (2 ^ 32) after)) (length-map numbers (λ i. number * 65536 + i)) in
+    let first = part_len number test before after part in
     let counted = so.counted in
     let parted = so.parted in
     let end = follows.end_is in
@@ -160,30 +156,57 @@ gather_more number test before after all old mid out keys counts sizes count chu
           (left_as (bodies_of (parts (2 ^ 16) all)) old mid 0 size _ _ (ap bodies_of next) so.written) follows;
     }
 
--- all is gathered
-pub record Gathered (all old out keys counts sizes : List ℕ) (count chunks size : ℕ) : Type 0 where
-  pub count_is : count ≡ length all
-  pub chunks_is : chunks ≡ length (parts (2 ^ 16) all)
-  pub keys_are : take chunks keys ≡ keys_of all
-  pub counts_are : take chunks counts ≡ counts_of all
-  pub sizes_are : take chunks sizes ≡ sizes_of all
-  pub written : Follow (concat (bodies all)) old out 0 size
+-- no more ids are gathered than there are
+pub gather_few : (number : ℕ) (test before after : ℕ → Bool) (all old mid keys counts sizes : List ℕ) (count chunks size : ℕ) → IsPart number test before after
+    → Gathering all (those (2 ^ 32) before) old mid keys counts sizes count chunks size → count + length (those 65536 test) ≤ length all
+gather_few number test before after all old mid keys counts sizes count chunks size part so =
+    let cut = part_len number test before after part in
+    let counted = so.counted in
+    omega arith
 
+-- a key more, if it has ids
+module _ (number : ℕ) (test before after : ℕ → Bool) (all old mid out keys counts sizes keys' counts' sizes' : List ℕ) (count chunks size count' chunks' size' own len : ℕ)
+    (part : IsPart number test before after) where
+  pub gather_key : own ≡ length (those 65536 test) → len ≤ 2 * own → (0 < own → Follow (body (those 65536 test)) mid out size (size + len))
+      → (own ≡ 0 → Follow [] mid out size size) → length out ≡ length mid
+      → (0 < own → (chunks < length keys) × ((chunks < length counts) × (chunks < length sizes))) → count' ≡ count + own → size' ≡ size + len
+      → (own ≡ 0 → (chunks' ≡ chunks) × ((keys' ≡ keys) × ((counts' ≡ counts) × (sizes' ≡ sizes)))) → (0 < own → chunks' ≡ chunks + 1)
+      → (0 < own → keys' ≡ set keys chunks number) → (0 < own → counts' ≡ set counts chunks own) → (0 < own → sizes' ≡ set sizes chunks len)
+      → Gathering all (those (2 ^ 32) before) old mid keys counts sizes count chunks size
+      → Gathering all (those (2 ^ 32) after) old out keys' counts' sizes' count' chunks' size'
+  gather_key is few follow nothing same room counted sized none more x y z so = elim (cases_lt 0 own) [
+    | inl some ↦ (
+        let (a, (b, d)) = room some in
+        rw (counted, sized, more some, x some, y some, z some)
+        (gather_more number test before after all old mid out keys counts sizes count chunks size own len part is some (follow some) same a b d so))
+    | inr less ↦ (
+        let zeroth : own ≡ 0 = omega arith in
+        let (a, (b, (d, e))) = none zeroth in
+        let count_same : count' ≡ count = omega arith in
+        let size_same : size' ≡ size = omega arith in
+        rw (count_same, size_same, a, b, d, e)
+        (gather_none number test before after all old mid out keys counts sizes count chunks size part (omega arith) (nothing zeroth) same so))
+  ]
+
+-- all is gathered
 pub gather_done : (all : List ℕ) (more : ℕ → Bool) (old out keys counts sizes : List ℕ) (count chunks size : ℕ) → ((x : ℕ) → x < 2 ^ 32 → more x ≡ false)
-    → Gathering all (those (2 ^ 32) more) old out keys counts sizes count chunks size → Gathered all old out keys counts sizes count chunks size
+    → Gathering all (those (2 ^ 32) more) old out keys counts sizes count chunks size → IsGathered all keys counts sizes out count chunks size
 unfolding parts
 gather_done all more old out keys counts sizes count chunks size none so =
     let nothing : those (2 ^ 32) more ≡ [] = none_pass (2 ^ 32) more none in
     let at_end : Gathering all [] old out keys counts sizes count chunks size = subst (λ (left : List ℕ). Gathering all left old out keys counts sizes count chunks size) nothing so in
     let counted : length all ≡ count + 0 = at_end.counted in
     let parted : length (parts (2 ^ 16) all) ≡ chunks + 0 = at_end.parted in
+    let follows : Follow (concat (bodies all)) old out 0 size = left_none (bodies_of (parts (2 ^ 16) all)) old out 0 size [] refl at_end.written in
+    let end = follows.end_is in
     record {
       count_is = omega arith;
-      chunks_is = omega arith;
+      chunks_are = omega arith;
       keys_are = told_done key chunks keys (parts (2 ^ 16) all) at_end.keys_told;
       counts_are = told_done count_of chunks counts (parts (2 ^ 16) all) at_end.counts_told;
       sizes_are = told_done size_of chunks sizes (parts (2 ^ 16) all) at_end.sizes_told;
-      written = left_none (bodies_of (parts (2 ^ 16) all)) old out 0 size [] refl at_end.written;
+      size_is = omega arith;
+      bodies_are = follows.written;
     }
 
 -- what is written is so long
@@ -195,15 +218,6 @@ pub follow_nothing : (xs old new : List ℕ) (at : ℕ) → length xs ≡ 0 → 
 follow_nothing xs old new at none so =
     let end : at + 0 ≡ at = omega arith in
     subst (λ (n : ℕ). Follow [] old new at n) end (follow_long xs [] old new at 0 (nil_from_length xs none) none so)
-
--- what is gathered of the answer is told of its chunks
-pub gather_told : (all ids old out keys counts sizes : List ℕ) (count chunks size : ℕ) → all ≡ ids → count ≡ length all → chunks ≡ length (parts (2 ^ 16) all)
-    → take chunks keys ≡ keys_of all → take chunks counts ≡ counts_of all → take chunks sizes ≡ sizes_of all → Follow (concat (bodies all)) old out 0 size
-    → IsTold ids (take chunks keys) (take chunks counts) (take chunks sizes) count chunks size
-gather_told all ids old out keys counts sizes count chunks size same a b d e f so =
-    let end = so.end_is in
-    subst (λ (l : List ℕ). IsTold l (take chunks keys) (take chunks counts) (take chunks sizes) count chunks size) same
-    record { count_is = a; chunks_are = b; keys_are = d; counts_are = e; sizes_are = f; size_is = omega arith }
 
 -- ---- an answer is a set
 

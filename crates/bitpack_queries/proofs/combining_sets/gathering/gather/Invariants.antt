@@ -7,9 +7,10 @@ use Rattle.bitpack_queries.proofs.combining_sets.gathering.gather.Given as goal
 
 abbrev pub invariant-loop-meeting : goal.invariant-loop-meeting
 invariant-loop-meeting l = record {
-  so : Gathering (those (2 ^ 32) (left l.fn.pair)) (those (2 ^ 32) (left l.pair)) l.fn.out l.out l.keys l.counts l.sizes l.count l.chunks l.size;
-  most : l.chunks + positions_left l.pair ≤ positions_left l.fn.pair;
-  small : l.size ≤ 2 * l.count;
+  so : Gathering (those (2 ^ 32) (left l.fn.pair)) (those (2 ^ 32) (left l.pair)) l.fn.out l.out l.keys l.counts l.sizes
+      l.gathered.count l.gathered.chunks l.gathered.size;
+  most : l.gathered.chunks + positions_left l.pair ≤ positions_left l.fn.pair;
+  small : l.gathered.size ≤ 2 * l.gathered.count;
   out_len : length l.out ≡ length l.fn.out;
   keys_len : length l.keys ≡ length l.fn.keys;
   counts_len : length l.counts ≡ length l.fn.counts;
