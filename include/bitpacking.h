@@ -388,6 +388,17 @@ static inline ptrdiff_t bitpacking_set_pack_inline(const uint32_t *ids, size_t i
 #define bitpacking_set_pack(...) bitpacking_set_pack_inline(__VA_ARGS__)
 #endif
 
+/* Writes the set of all ids from first to before end at the start of bytes, and returns its number of bytes. Bytes after those are unchanged. The
+ * ids are not listed: the time is in proportion to the bytes. If end is at most first the set has no id. An end above 2^32 is as 2^32.
+ *
+ *     TOO_LONG      there are more than 268,435,456 ids
+ *     SHORT         bytes_len is below what bitpacking_set_range_size returns
+ */
+ptrdiff_t bitpacking_set_pack_range(uint32_t first, uint64_t end, uint8_t *bytes, size_t bytes_len);
+
+/* Returns the number of bytes that bitpacking_set_pack_range writes, and writes none. It has the error TOO_LONG. */
+ptrdiff_t bitpacking_set_range_size(uint32_t first, uint64_t end);
+
 /* Opens a set. Accepts any bytes, and tests all of them: they may be untrusted. Returns 0; or the number of the first fault in the order of
  * docs/FORMAT.md, and then the view is unchanged. */
 ptrdiff_t bitpacking_set_open(const uint8_t *bytes, size_t bytes_len, bitpacking_set *view);
@@ -509,28 +520,35 @@ int32_t bitpacking_set_is_disjoint(const bitpacking_set *first, const bitpacking
 ptrdiff_t bitpacking_set_query(const bitpacking_set *views, size_t views_len, const uint32_t *steps, size_t steps_len,
                                uint64_t *space, size_t space_len, uint64_t *next, uint32_t *ids, size_t ids_len, size_t *position);
 
-/* Writes the set that an operation on two sets gives at the start of bytes, and returns its number of bytes: what bitpacking_set_pack writes of its
- * ids. The operation is BITPACKING_AND, _OR, _AND_NOT or _XOR. Large sets are combined chunk by chunk, and not unpacked. bytes may not overlap the
- * bytes of the sets. Bytes after the set may have changed, and any byte if the call fails. A call takes about 60 KB of stack.
+/* Writes the set that the first set gives, combined with each other in turn, at the start of bytes, and returns its number of bytes: what
+ * bitpacking_set_pack writes of its ids. The operation is BITPACKING_AND, _OR, _AND_NOT or _XOR. If there is no set, it has no id. Large sets are
+ * combined chunk by chunk, and not unpacked. bytes may not overlap the bytes of the sets. Bytes after the set may have changed, and any byte if the
+ * call fails. A call takes about 130 KB of stack.
  *
  * room is work space, which may hold anything: as many items as bitpacking_set_combine_room returns for the sets. The call may change any item. Room
- * for the bytes of both sets, and 8500 more, is usually enough. If the call returns SHORT, double the room:
+ * for the bytes of all sets, and 8500 more, is usually enough. If the call returns SHORT, double the room:
  *
- *     size_t room_len = bitpacking_set_combine_room(&first, &second), bytes_len = first.bytes_len + second.bytes_len + 8500;
+ *     size_t room_len = bitpacking_set_combine_room(sets, 2), bytes_len = sets[0].bytes_len + sets[1].bytes_len + 8500;
  *     ...
- *     ptrdiff_t size = bitpacking_set_combine(BITPACKING_OR, &first, &second, room, room_len, bytes, bytes_len);
+ *     ptrdiff_t size = bitpacking_set_combine(BITPACKING_OR, sets, 2, room, room_len, bytes, bytes_len);
  *
  *     BAD_KIND      no operation has this number
  *     SHORT         the work space is too short
  *     TOO_LONG      the set would have more than 268,435,456 ids
  *     SHORT         bytes_len is below the bytes of the set: BITPACKING_SET_ROOM(its ids) are always enough
  */
-ptrdiff_t bitpacking_set_combine(uint32_t operation, const bitpacking_set *first, const bitpacking_set *second, uint32_t *room, size_t room_len,
-                                 uint8_t *bytes, size_t bytes_len);
+ptrdiff_t bitpacking_set_combine(uint32_t operation, const bitpacking_set *views, size_t views_len, uint32_t *room, size_t room_len, uint8_t *bytes,
+                                 size_t bytes_len);
 
-/* Returns how many items of work space bitpacking_set_combine needs for these sets: 4 for each chunk of both, or for each id of a set that is not
- * in chunks. */
-size_t bitpacking_set_combine_room(const bitpacking_set *first, const bitpacking_set *second);
+/* Returns how many items of work space bitpacking_set_combine and bitpacking_set_query_pack need for these sets: 4 for each chunk, or for each id of
+ * a set that is not in chunks, but at most 262,144. */
+size_t bitpacking_set_combine_room(const bitpacking_set *views, size_t views_len);
+
+/* Writes the set of the ids that a query has at the start of bytes, and returns its number of bytes. It requires views, steps and space as
+ * bitpacking_set_query does, and room and bytes as bitpacking_set_combine does, and has the errors of both. *position is written only if the steps
+ * have a fault, or if space is too short for them. Then nothing else is written. */
+ptrdiff_t bitpacking_set_query_pack(const bitpacking_set *views, size_t views_len, const uint32_t *steps, size_t steps_len, uint64_t *space,
+                                    size_t space_len, uint32_t *room, size_t room_len, uint8_t *bytes, size_t bytes_len, size_t *position);
 
 /* Calls that combine a set with the increasing ids of an array, in the array. They return how many ids are in its front then.
  *

@@ -193,16 +193,19 @@ static void ranks(void)
         expect(best[k].score == right[k].score && best[k].id == right[k].id, "others are the best");
 }
 
-/* ---- sets of several chunks */
+/* ---- sets of several chunks, any number of them, that are combined into a set */
 
-enum { LONG = 400000, LONG_CASES = 40, WORK = 1100 };
+enum { LONG = 60000, LONG_CASES = 40, MANY = 20, WORK = 262144, STEPS = 15, DEPTH = 4 };
 
-/* The sets that have each number, as bits, the ids of one, and the bytes of two, of their answer, and of what a call writes. */
-static uint8_t is_in[LONG], bytes[4][BITPACKING_SET_ROOM(LONG)];
-static uint32_t many[LONG], work[WORK];
+/* The sets that have each number, as bits, and the id of number 0, and how far each id is from the next. */
+static uint32_t is_in[LONG], long_base, apart;
+/* The sets, the ids and the bytes of a set, which are then the right answer, and what a call writes. */
+static bitpacking_set long_sets[MANY];
+static uint8_t bytes[MANY][BITPACKING_SET_ROOM(LONG)], answer[BITPACKING_SET_ROOM(LONG)], written[BITPACKING_SET_ROOM(LONG) + 1];
+static uint32_t many[LONG], work[WORK + 1];
 
 /* Draws the numbers of a set: parts with all numbers, none, few, and nearly all. */
-static void draw_long(uint8_t bit)
+static void draw_long(size_t set)
 {
     size_t at = 0, end;
 
@@ -211,50 +214,121 @@ static void draw_long(uint8_t bit)
 
         for (end = at + 1 + drawn(drawn(2) ? 3000 : 90000); at < end && at < LONG; at++)
             if (kind == 0 || (kind > 1 && (drawn(gap) > 0) == (kind == 2)))
-                is_in[at] |= bit;
+                is_in[at] |= UINT32_C(1) << set;
     }
 }
 
-/* Packs the numbers whose bits a call wants. */
-static size_t packed_long(uint8_t *to, int of_first, int of_second, int of_both)
+/* Whether a query has a number, by the bits of the sets that have it. */
+static int finds(const uint32_t *steps, size_t len, uint32_t bits)
 {
-    const int wanted[] = {0, of_first, of_second, of_both};
-    uint32_t at, len = 0;
+    uint32_t waiting = 0;
+    size_t i;
+
+    for (i = 0; i < len; i++) {
+        const uint32_t last = waiting & 1, first = waiting >> 1 & 1, it = UINT32_MAX - steps[i];
+        const uint32_t is[] = {first & last, first | last, first & (last ^ 1), first ^ last};
+
+        waiting = it < 4 ? waiting >> 2 << 1 | is[it] : waiting << 1 | (bits >> steps[i] & 1);
+    }
+    return (int)(waiting & 1);
+}
+
+/* Packs the ids of the numbers that a query has. */
+static size_t packed_long(uint8_t *to, const uint32_t *steps, size_t len)
+{
+    uint32_t at, count = 0;
 
     for (at = 0; at < LONG; at++)
-        if (wanted[is_in[at]])
-            many[len++] = base + at;
-    return (size_t)bitpacking_set_pack(many, len, to, sizeof bytes[0], NULL);
+        if (finds(steps, len, is_in[at]))
+            many[count++] = long_base + at * apart;
+    return (size_t)bitpacking_set_pack(many, count, to, sizeof answer, NULL);
 }
 
-/* An operation on two sets writes the bytes of its ids, into as many as there are. */
-static void gives(uint32_t operation, int of_first, int of_second, int of_both)
+/* A call wrote the answer into room for it alone, and nothing after it. */
+static void wrote(ptrdiff_t size, size_t right, size_t needed, const char *what)
 {
-    const size_t size = packed_long(bytes[2], of_first, of_second, of_both), needed = bitpacking_set_combine_room(&sets[0], &sets[1]);
+    expect(size == (ptrdiff_t)right && memcmp(written, answer, right) == 0 && written[right] == 0xA5 && work[needed] == 77, what);
+}
 
+/* An operation on so many sets gives the set of its ids, and refuses less room. */
+static void gives(uint32_t operation, size_t len)
+{
+    const size_t needed = bitpacking_set_combine_room(long_sets, len);
+    uint32_t steps[2 * MANY], i;
+    size_t count = 0, size;
+
+    for (i = 0; i < len; i++) {
+        steps[count++] = i;
+        if (i > 0)
+            steps[count++] = operation;
+    }
+    size = packed_long(answer, steps, count);
     expect(needed <= WORK, "too much work space");
-    expect(bitpacking_set_combine(operation, &sets[0], &sets[1], work, needed, bytes[3], size) == (ptrdiff_t)size, "another size");
-    expect(memcmp(bytes[3], bytes[2], size) == 0, "other bytes");
-    expect(bitpacking_set_combine(operation, &sets[0], &sets[1], work, needed, bytes[3], size - 1) == BITPACKING_SHORT, "too few bytes");
+    work[needed] = 77;
+    written[size] = 0xA5;
+    wrote(bitpacking_set_combine(operation, long_sets, len, work, needed, written, size), size, needed, "another set");
+    expect(bitpacking_set_combine(operation, long_sets, len, work, needed, written, size - 1) == BITPACKING_SHORT, "a byte too few");
+    if (needed > 0)
+        expect(bitpacking_set_combine(operation, long_sets, len, work, needed - 1, written, size) == BITPACKING_SHORT, "an item too few");
 }
 
-static void combines_long(void)
+/* A random query over so many sets gives the set of its ids, and refuses less room. */
+static void packs_query(uint32_t sets_len)
 {
-    memset(is_in, 0, sizeof is_in);
-    draw_long(1);
-    draw_long(2);
-    bitpacking_set_open(bytes[0], packed_long(bytes[0], 1, 0, 1), &sets[0]);
-    bitpacking_set_open(bytes[1], packed_long(bytes[1], 0, 1, 1), &sets[1]);
-    gives(BITPACKING_AND, 0, 0, 1);
-    gives(BITPACKING_OR, 1, 1, 1);
-    gives(BITPACKING_AND_NOT, 1, 0, 0);
-    gives(BITPACKING_XOR, 1, 1, 0);
+    static uint64_t space[BITPACKING_QUERY_SPACE(DEPTH)];
+    const size_t needed = bitpacking_set_combine_room(long_sets, sets_len), most = BITPACKING_QUERY_SPACE(DEPTH);
+    uint32_t steps[STEPS + DEPTH], waiting = 0;
+    size_t len = 0, size, position = 77;
+
+    while (len < STEPS || waiting > 1) {
+        const int is_set = waiting < 2 || (len < STEPS && waiting < DEPTH && drawn(2));
+
+        steps[len++] = is_set ? drawn(sets_len) : UINT32_MAX - drawn(4);
+        waiting = is_set ? waiting + 1 : waiting - 1;
+    }
+    size = packed_long(answer, steps, len);
+    work[needed] = 77;
+    written[size] = 0xA5;
+#define PACKS(items, room) bitpacking_set_query_pack(long_sets, sets_len, steps, len, space, most, work, items, written, room, &position)
+    wrote(PACKS(needed, size), size, needed, "another set of a query");
+    expect(PACKS(needed, size - 1) == BITPACKING_SHORT && position == 77, "a byte too few for a query");
+    if (needed > 0)
+        expect(PACKS(needed - 1, size) == BITPACKING_SHORT && position == 77, "an item too few for a query");
+#undef PACKS
+}
+
+/* Each operation, and queries, over so many sets. */
+static void combines_long(uint32_t len)
+{
+    const bitpacking_set empty = BITPACKING_SET_EMPTY;
+    uint32_t i;
+
+    for (i = 0; i < len; i++) {
+        long_sets[i] = empty;
+        expect(bitpacking_set_open(bytes[i], packed_long(bytes[i], &i, 1), &long_sets[i]) == 0, "a long set is not opened");
+    }
+    for (i = 0; i < 4; i++)
+        gives(UINT32_MAX - i, len);
+    for (i = 0; i < 4 && len > 0; i++)
+        packs_query(len);
+}
+
+/* Three sets whose AND has so many ids. */
+static void answers_few(uint32_t count)
+{
+    uint32_t at;
+
+    for (at = 0; at < LONG; at++)
+        is_in[at] = 1 | (at % 7 == 0) << 1 | (at % 11 == 0 && at < 77 * count) << 2;
+    combines_long(3);
 }
 
 int main(void)
 {
-    static const uint32_t bases[] = {0, UINT32_C(0x80000000) - SPAN / 4, UINT32_MAX - SPAN};
-    size_t number, set;
+    static const uint32_t bases[] = {0, UINT32_C(0x80000000) - SPAN / 4, UINT32_MAX - SPAN}, lens[] = {0, 1, 2, 3, 2, MANY, 3, 5};
+    static const uint32_t steps[] = {1, 5, 1000, 3, 30};
+    uint32_t number;
+    size_t set;
 
     for (number = 0; number < CASES; number++) {
         base = bases[number % 3];
@@ -272,8 +346,14 @@ int main(void)
         looks_between();
     }
     for (number = 0; number < LONG_CASES; number++) {
-        base = drawn(UINT32_MAX - LONG);
-        combines_long();
+        apart = steps[number / 8];
+        long_base = drawn(UINT32_MAX - LONG * apart);
+        memset(is_in, 0, sizeof is_in);
+        for (set = 0; set < lens[number % 8]; set++)
+            draw_long(set);
+        combines_long(lens[number % 8]);
+        if (number < 8)
+            answers_few(125 + number);
     }
     printf("%d cases\n", CASES + LONG_CASES);
     return failed;

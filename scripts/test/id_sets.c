@@ -66,6 +66,38 @@ static void packs(void)
     }
 }
 
+/* A range has the bytes of its ids, and needs room for all of them. An end above 2^32 is as 2^32. */
+static void packs_range(uint32_t first, size_t len, uint64_t end)
+{
+    size_t i;
+    ptrdiff_t want;
+
+    for (i = 0; i < len; i++)
+        work[i] = first + (uint32_t)i;
+    want = bitpacking_set_pack(work, len, packed, sizeof packed, NULL);
+    memset(bytes, 0xA5, (size_t)want + 1);
+    expect(bitpacking_set_range_size(first, end) == want, "the size of a range");
+    expect(bitpacking_set_pack_range(first, end, bytes, (size_t)want - 1) == BITPACKING_SHORT, "a range without room");
+    expect(bytes[0] == 0xA5, "a range without room is written");
+    expect(bitpacking_set_pack_range(first, end, bytes, (size_t)want + 1) == want, "a range");
+    expect(memcmp(bytes, packed, (size_t)want) == 0 && bytes[want] == 0xA5, "the bytes of a range");
+}
+
+static void packs_ranges(void)
+{
+    static const uint32_t firsts[] = {0, 65530, 65535, 131072}, lens[] = {0, 1, 15, 16, 127, 128, 200, 65536, 65541};
+    size_t i, j;
+
+    for (i = 0; i < 4; i++)
+        for (j = 0; j < 9; j++)
+            packs_range(firsts[i], lens[j], (uint64_t)firsts[i] + lens[j]);
+    packs_range(UINT32_MAX - 199, 200, UINT64_MAX);
+    packs_range(9, 0, 4);
+    expect(bitpacking_set_range_size(0, 268435456) > 0, "as many ids as a set has");
+    expect(bitpacking_set_range_size(0, 268435457) == BITPACKING_TOO_LONG, "the size of too many ids");
+    expect(bitpacking_set_pack_range(0, UINT64_MAX, bytes, 0) == BITPACKING_TOO_LONG, "too many ids");
+}
+
 /* The ids from a cut on are appended to those before it. */
 static void appends(size_t cut)
 {
@@ -200,22 +232,23 @@ static void are(const bitpacking_set *views, size_t views_len, size_t in_all, co
 /* An operation on two sets writes the set of the ids at `right`, into as much room as it needs, and into more. It refuses less. */
 static void gives(uint32_t operation, const bitpacking_set *one, const bitpacking_set *two, size_t len)
 {
-    const size_t needed = bitpacking_set_combine_room(one, two);
+    const bitpacking_set views[] = {*one, *two};
+    const size_t needed = bitpacking_set_combine_room(views, 2);
     const ptrdiff_t wanted = bitpacking_set_pack(right, len, answer_bytes, 2 * ROOM, NULL);
     const size_t bytes_len = (size_t)wanted;
 
     expect(needed <= sizeof room / sizeof *room && wanted > 0, "too much work space");
     room[needed] = 77;
     packed_set[bytes_len] = 0xA5;
-    expect(bitpacking_set_combine(operation, one, two, room, needed, packed_set, bytes_len) == wanted, "another size is combined");
+    expect(bitpacking_set_combine(operation, views, 2, room, needed, packed_set, bytes_len) == wanted, "another size is combined");
     expect(memcmp(packed_set, answer_bytes, bytes_len) == 0 && packed_set[bytes_len] == 0xA5 && room[needed] == 77, "other bytes are combined");
     memset(packed_set, 0, bytes_len);
-    expect(bitpacking_set_combine(operation, one, two, room, needed + 1, packed_set, 2 * ROOM) == wanted, "another size with more room");
+    expect(bitpacking_set_combine(operation, views, 2, room, needed + 1, packed_set, 2 * ROOM) == wanted, "another size with more room");
     expect(memcmp(packed_set, answer_bytes, bytes_len) == 0, "other bytes with more room");
-    expect(bitpacking_set_combine(operation, one, two, room, needed, packed_set, bytes_len - 1) == BITPACKING_SHORT, "a byte too few");
-    expect(bitpacking_set_combine(operation, one, two, room, needed, NULL, 0) == BITPACKING_SHORT, "no byte is enough");
+    expect(bitpacking_set_combine(operation, views, 2, room, needed, packed_set, bytes_len - 1) == BITPACKING_SHORT, "a byte too few");
+    expect(bitpacking_set_combine(operation, views, 2, room, needed, NULL, 0) == BITPACKING_SHORT, "no byte is enough");
     if (needed > 0)
-        expect(bitpacking_set_combine(operation, one, two, room, needed - 1, packed_set, 2 * ROOM) == BITPACKING_SHORT, "too little space");
+        expect(bitpacking_set_combine(operation, views, 2, room, needed - 1, packed_set, 2 * ROOM) == BITPACKING_SHORT, "too little space");
 }
 
 /* Each operation on two sets. */
@@ -243,9 +276,12 @@ static void refuses(const uint32_t *steps, size_t steps_len, size_t room, ptrdif
     const bitpacking_set set = BITPACKING_SET_EMPTY;
     uint64_t next = 5;
     uint32_t id = 7;
+    uint8_t byte = 9;
 
     expect(bitpacking_set_query(&set, 1, steps, steps_len, space, room, &next, &id, 1, &position) == number && position == at, what);
-    expect(next == 5 && id == 7, what);
+    position = 77;
+    expect(bitpacking_set_query_pack(&set, 1, steps, steps_len, space, room, &id, 1, &byte, 1, &position) == number && position == at, what);
+    expect(next == 5 && id == 7 && byte == 9, what);
 }
 
 /* Each error of a query, by the steps of as many operands as there may be. */
@@ -330,7 +366,7 @@ static size_t put_form(size_t form, uint32_t *to)
 /* Each operation on each two forms. Another number is no operation, whatever room there is, and nothing is written. */
 static void pairs_of_forms(void)
 {
-    bitpacking_set one = BITPACKING_SET_EMPTY, two = BITPACKING_SET_EMPTY;
+    bitpacking_set views[] = {BITPACKING_SET_EMPTY, BITPACKING_SET_EMPTY};
     const size_t len = sizeof forms / sizeof *forms;
     uint8_t byte = 0xA5;
     uint32_t item = 77;
@@ -338,13 +374,13 @@ static void pairs_of_forms(void)
 
     for (i = 0; i < len; i++)
         for (j = 0; j < len; j++) {
-            one = opened(values, count = put_form(i, values), first_bytes);
-            two = opened(others, others_len = put_form(j, others), other_bytes);
-            gives_each(&one, values, count, &two, others, others_len);
+            views[0] = opened(values, count = put_form(i, values), first_bytes);
+            views[1] = opened(others, others_len = put_form(j, others), other_bytes);
+            gives_each(&views[0], values, count, &views[1], others, others_len);
         }
     for (item = 0; item < 5; item++)
-        expect(bitpacking_set_combine(item, &one, &two, NULL, 0, &byte, 1) == BITPACKING_BAD_KIND, "a number of no operation");
-    expect(bitpacking_set_combine(BITPACKING_XOR - 1, &one, &two, &item, 1, &byte, 1) == BITPACKING_BAD_KIND, "a number below XOR");
+        expect(bitpacking_set_combine(item, views, 2, NULL, 0, &byte, 1) == BITPACKING_BAD_KIND, "a number of no operation");
+    expect(bitpacking_set_combine(BITPACKING_XOR - 1, views, 2, &item, 1, &byte, 1) == BITPACKING_BAD_KIND, "a number below XOR");
     expect(byte == 0xA5 && item == 5, "a number of no operation writes");
 }
 
@@ -363,8 +399,9 @@ static void empty(void)
     expect(bitpacking_set_retain(&set, NULL, 0) == 0 && bitpacking_set_remove(&set, NULL, 0) == 0, "an empty array");
     expect(bitpacking_set_intersect(NULL, 0, NULL, 0) == 0 && bitpacking_set_unite(NULL, 0, NULL, 0) == 0, "no set has ids");
     expect(bitpacking_set_subtract(NULL, 0, NULL, 0) == 0 && bitpacking_set_symmetric_difference(&set, &set, NULL, 0) == 0, "ids of no set");
-    expect(bitpacking_set_combine_room(&set, &set) == 0, "zeros need work space");
-    expect(bitpacking_set_combine(BITPACKING_OR, &set, &set, NULL, 0, &byte, 1) == 1 && byte == 0x80, "zeros have other bytes together");
+    expect(bitpacking_set_combine_room(&set, 1) == 0 && bitpacking_set_combine_room(NULL, 0) == 0, "zeros need work space");
+    expect(bitpacking_set_combine(BITPACKING_OR, &set, 1, NULL, 0, &byte, 1) == 1 && byte == 0x80, "zeros have other bytes together");
+    expect(bitpacking_set_combine(BITPACKING_AND, NULL, 0, NULL, 0, &byte, 0) == BITPACKING_SHORT, "the set of no set needs no byte");
     expect(bitpacking_set_count_common(NULL, 0) == 0 && bitpacking_set_count_any(NULL, 0) == 0, "no set has ids in common");
     expect(bitpacking_set_append(&set, NULL, 0, NULL, 0, &byte, 1, NULL) == 1 && byte == 0x80, "nothing after nothing");
     expect(bitpacking_set_open(NULL, 0, &set) == BITPACKING_TRUNCATED && set.bytes == NULL, "no bytes are a set");
@@ -379,6 +416,7 @@ int main(void)
     char *column[COLUMNS];
 
     empty();
+    packs_ranges();
     query_errors();
     pairs_of_forms();
     memset(packed, 0xA5, sizeof packed);

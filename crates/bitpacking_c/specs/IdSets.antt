@@ -4,6 +4,7 @@ use Rattle.bitpack_slices.specs.declared.set_error.SetError.{SetError}
 use Rattle.bitpack_slices.specs.declared.set_error.SetError.TheVariants.{NotSorted, Short}
 use Rattle.bitpack_slices.specs.Errors.{number_of_error}
 use Rattle.bitpack_slices.specs.Reads.{rank}
+use Rattle.bitpack_sets.specs.Ranges.{ids_within}
 use Rattle.bitpack_sets.specs.Sets.{IsSet, encoding}
 use Rattle.bitpack_sets.specs.Written.{WritesSet}
 
@@ -44,6 +45,10 @@ AnswersSet number before after Means = NumbersSet number (λ answer. (after ≡ 
 abbrev pub PacksSet : List ℕ → List ℕ → List ℕ → ℕ → ℕ → ℤ → Type 0
 PacksSet ids old new before after number =
     AnswersSet number before after (λ answer. WritesSet ids answer old new)
+
+-- the encoding of the ids of a range is written, or they are too many, or there is no room
+abbrev pub WritesRange : ℕ → ℕ → List ℕ → List ℕ → Result ℕ SetError → Type 0
+WritesRange first end old new answer = WritesSet (ids_within first end) answer old new
 
 -- how many ids are below the target, and the id at this position, the first that is at least the target, are written, and the result is 1; or
 -- all ids are below it, the result is 0, and nothing is written

@@ -20,7 +20,7 @@ const XOR: u32 = 0xFFFF_FFFC;
 #[repr(C)]
 #[derive(Clone, Copy)]
 pub struct QueryStep {
-    number: u32,
+    pub(crate) number: u32,
 }
 
 impl AsStep for QueryStep {
@@ -73,7 +73,7 @@ pub extern "C" fn bitpacking_set_query(
 }
 
 /// What a call with a fault returns, and the position: of the step that has it, or how many operands are left or wait.
-fn refuse(fault: QueryError) -> (isize, usize)
+pub(crate) fn refuse(fault: QueryError) -> (isize, usize)
     ensures { result ≡ refusal fault }
 {
     match fault {
