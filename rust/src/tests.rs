@@ -21,5 +21,6 @@ mod set_iter;
 mod set_models;
 mod set_packing;
 mod set_query;
+mod set_ranges;
 mod set_reading;
 mod set_types;

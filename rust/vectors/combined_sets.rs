@@ -2,7 +2,9 @@
 
 use std::collections::BTreeSet;
 
-use bitpacking::queries::{add, combine_all_count, combine_all_to, combine_count, combine_set_to, combine_to, remove, retain};
+use bitpacking::queries::{
+    add, combine_all_count, combine_all_set_to, combine_all_to, combine_count, combine_room, combine_to, remove, retain,
+};
 use bitpacking::sets::{IdSet, encode};
 use bitpacking::slices::{Operation, SetError};
 
@@ -48,12 +50,16 @@ fn written(name: &str, operation: Operation, (a, b): (&IdSet<'_>, &IdSet<'_>), a
         let refused = combine_to(operation, a, b, &mut found[..less]);
         report.check(&row.name, &format!("{name} without room"), refused, Err(SetError::Short));
     }
-    let expected = encoded(answer);
-    let mut room = vec![7; 4 * (a.places() + b.places())];
+    set_written(name, operation, &[*a, *b], &encoded(answer), row, report);
+}
+
+/// As a set: into bytes without room for the last, and into bytes with room.
+fn set_written(name: &str, operation: Operation, sets: &[IdSet<'_>], expected: &[u8], row: &Row, report: &mut Report) {
+    let mut room = vec![7; combine_room(sets)];
     let mut bytes = vec![0xA5; expected.len()];
-    let refused = combine_set_to(operation, a, b, &mut room, &mut bytes[1..]);
+    let refused = combine_all_set_to(operation, sets, &mut room, &mut bytes[1..]);
     report.check(&row.name, &format!("{name}, as a set without room"), refused, Err(SetError::Short));
-    let written = combine_set_to(operation, a, b, &mut room, &mut bytes);
+    let written = combine_all_set_to(operation, sets, &mut room, &mut bytes);
     report.check(&row.name, &format!("{name}, as a set"), written, Ok(expected.len()));
     report.check(&row.name, &format!("{name}, bytes"), bytes == expected, true);
 }
@@ -107,12 +113,15 @@ fn all_written(
             let refused = combine_all_to(operation, &sets, &mut found[..less]);
             report.check(&row.name, &format!("{name} without room"), refused, Err(SetError::Short));
         }
+        set_written(&name, operation, &sets, &encoded(answer), row, report);
     }
     let alone = [*a];
     let mut found = vec![u32::MAX; a.len()];
     report.check(&row.name, "one set", combine_all_to(operation, &alone, &mut found), Ok(a.len()));
     report.check(&row.name, "one set, ids", found.iter().copied().eq(a.iter()), true);
+    set_written("one set", operation, &alone, &encoded(&a.iter().collect::<Vec<u32>>()), row, report);
     let none: [IdSet<'_>; 0] = [];
+    set_written("no set", operation, &none, &encoded(&[]), row, report);
     report.check(&row.name, "no set", combine_all_to(operation, &none, &mut []), Ok(0));
     report.check(&row.name, "no set, counted", combine_all_count(operation, &none), 0);
 }
@@ -128,9 +137,11 @@ pub fn counted_by_hand(report: &mut Report) {
     report.check("all ids", "or of two, counted", combine_count(Operation::Or, &sets[0], &sets[15]), 1 << 29);
     let mut ids = [0; 100];
     report.check("all ids", "or without room", combine_all_to(Operation::Or, &sets, &mut ids), Err(SetError::Short));
-    let mut room = vec![0; 4 * (sets[0].places() + sets[15].places())];
-    let refused = combine_set_to(Operation::Or, &sets[0], &sets[15], &mut room, &mut []);
-    report.check("all ids", "or of two, as a set", refused, Err(SetError::TooLong(1 << 29)));
+    for (name, sets, count) in [("two", &[sets[0], sets[15]][..], 1 << 29), ("all", &sets, 1 << 32)] {
+        let mut room = vec![0; combine_room(sets)];
+        let refused = combine_all_set_to(Operation::Or, sets, &mut room, &mut []);
+        report.check("all ids", &format!("or of {name}, as a set"), refused, Err(SetError::TooLong(count)));
+    }
 }
 
 /// The set of all ids of 4096 keys: each body is a run.

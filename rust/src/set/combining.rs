@@ -20,17 +20,23 @@ pub(super) fn count(operation: Operation, sets: &[&IdSet]) -> usize {
     usize::try_from(queries::combine_all_count(operation, sets)).expect("a count of ids that fits `usize`")
 }
 
-/// How many ids an operation on sets gives at most. It counts them if the bound may be far too high: many sets can share most of their ids.
-fn room(operation: Operation, sets: &[&IdSet]) -> usize {
+/// How many ids an operation on sets gives at most.
+fn most_ids(operation: Operation, sets: &[&IdSet]) -> usize {
     let lens = sets.iter().map(|set| set.len());
     match operation {
         Operation::And => lens.min().unwrap_or(0),
         Operation::AndNot => sets.first().map_or(0, |set| set.len()),
-        Operation::Or | Operation::Xor => {
-            let all = lens.clone().fold(0, usize::saturating_add);
-            let longest = lens.max().unwrap_or(0);
-            if all <= MOST_UNCOUNTED || all / 2 <= longest { all } else { count(operation, sets) }
-        }
+        Operation::Or | Operation::Xor => lens.fold(0, usize::saturating_add),
+    }
+}
+
+/// For how many ids a call makes room. It counts them if there may be far fewer: many sets can share most of their ids.
+fn room(operation: Operation, sets: &[&IdSet]) -> usize {
+    let most = most_ids(operation, sets);
+    let longest = sets.iter().map(|set| set.len()).max().unwrap_or(0);
+    match operation {
+        Operation::Or | Operation::Xor if most > MOST_UNCOUNTED && most / 2 > longest => count(operation, sets),
+        _ => most,
     }
 }
 
@@ -49,25 +55,23 @@ pub(super) fn combine(operation: Operation, sets: &[&IdSet]) -> Vec<u32> {
     if ids.capacity() > 2 * ids.len() + 32 { ids.as_slice().to_vec() } else { ids }
 }
 
-/// The set that an operation on two sets gives, or `TooLong` or `Memory`.
-fn try_combine_set(operation: Operation, one: &IdSet, other: &IdSet) -> Result<IdSetBuf, Error> {
-    // The answer is seldom longer, and in chunks it has at most two bytes for each id.
-    let ids = match operation {
-        Operation::And => one.len().min(other.len()),
-        Operation::AndNot => one.len(),
-        Operation::Or | Operation::Xor => one.len() + other.len(),
-    };
-    let mut most = (one.as_bytes().len() + other.as_bytes().len()).min(2 * ids) + MORE;
-    let (one, other) = (one.code(), other.code());
+/// The set that a call writes at the start of bytes. The call has work space for as many items, and bytes for `most`: twice as many each time that
+/// it says that these are too few.
+pub(super) fn written(
+    items: usize,
+    most: usize,
+    mut call: impl FnMut(&mut [u32], &mut [u8]) -> Result<usize, Error>,
+) -> Result<IdSetBuf, Error> {
     let mut room = Vec::new();
-    room.try_resize(4 * (one.places() + other.places()), 0).map_err(|_| Error::Memory)?;
+    room.try_resize(items, 0).map_err(|_| Error::Memory)?;
     packed(|bytes| {
+        let mut len = most.saturating_add(MORE);
         loop {
-            bytes.try_resize(most, 0).map_err(|_| Error::Memory)?;
-            match queries::combine_set_to(operation, &one, &other, &mut room, bytes) {
-                Err(Error::Short) => most *= 2,
-                written => {
-                    bytes.truncate(written?);
+            bytes.try_resize(len, 0).map_err(|_| Error::Memory)?;
+            match call(&mut room, bytes) {
+                Err(Error::Short) => len = len.saturating_mul(2),
+                size => {
+                    bytes.truncate(size?);
                     break;
                 }
             }
@@ -79,10 +83,18 @@ fn try_combine_set(operation: Operation, one: &IdSet, other: &IdSet) -> Result<I
     })
 }
 
+/// The set of the ids of the first set, combined with each other set in turn, or `TooLong` or `Memory`.
+pub(super) fn try_combine_set(operation: Operation, sets: &[&IdSet]) -> Result<IdSetBuf, Error> {
+    // The answer seldom takes more bytes than the sets, and in chunks at most two for each id.
+    let all = sets.iter().map(|set| set.as_bytes().len()).fold(0, usize::saturating_add);
+    let most = all.min(most_ids(operation, sets).saturating_mul(2));
+    written(queries::combine_room(sets), most, |room, bytes| queries::combine_all_set_to(operation, sets, room, bytes))
+}
+
 /// The set that an operation on two sets gives. Panics if there is an error.
 #[track_caller]
 pub(super) fn combine_set(operation: Operation, one: &IdSet, other: &IdSet) -> IdSetBuf {
-    match try_combine_set(operation, one, other) {
+    match try_combine_set(operation, &[one, other]) {
         Ok(set) => set,
         Err(error) => panic!("{error}"),
     }
@@ -124,7 +136,7 @@ impl IdSet {
     /// # Ok::<(), bitpacking::set::Error>(())
     /// ```
     pub fn try_intersect(&self, other: &IdSet) -> Result<IdSetBuf, Error> {
-        try_combine_set(Operation::And, self, other)
+        try_combine_set(Operation::And, &[self, other])
     }
 
     /// Returns the set of the ids that at least one of the two has, also as `|`.
@@ -160,7 +172,7 @@ impl IdSet {
     /// # Ok::<(), bitpacking::set::Error>(())
     /// ```
     pub fn try_unite(&self, other: &IdSet) -> Result<IdSetBuf, Error> {
-        try_combine_set(Operation::Or, self, other)
+        try_combine_set(Operation::Or, &[self, other])
     }
 
     /// Returns the set of the ids that this set has and the other lacks, also as `-`.
@@ -196,7 +208,7 @@ impl IdSet {
     /// # Ok::<(), bitpacking::set::Error>(())
     /// ```
     pub fn try_subtract(&self, other: &IdSet) -> Result<IdSetBuf, Error> {
-        try_combine_set(Operation::AndNot, self, other)
+        try_combine_set(Operation::AndNot, &[self, other])
     }
 
     /// Returns the set of the ids that exactly one of the two has, also as `^`.
@@ -232,7 +244,7 @@ impl IdSet {
     /// # Ok::<(), bitpacking::set::Error>(())
     /// ```
     pub fn try_symmetric_difference(&self, other: &IdSet) -> Result<IdSetBuf, Error> {
-        try_combine_set(Operation::Xor, self, other)
+        try_combine_set(Operation::Xor, &[self, other])
     }
 
     /// Replaces the values of a vector by the ids that both have, in increasing order. Allocates only if the capacity of the vector is below the

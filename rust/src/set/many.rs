@@ -1,9 +1,9 @@
-//! What any number of sets have in common, together, and one without the others.
+//! What any number of sets have in common, together, and one without the others: as ids, and as a set.
 
 use alloc::vec::Vec;
 
-use super::IdSet;
-use super::combining::{combine, combine_into, count};
+use super::combining::{combine, combine_into, count, try_combine_set};
+use super::{Error, IdSet, IdSetBuf};
 use crate::slices::Operation;
 
 /// Returns the ids that all sets have, in increasing order. Of no sets there are none. Allocates 4 bytes for each id of the shortest set.
@@ -134,4 +134,76 @@ pub fn subtract_all_into(sets: &[&IdSet], ids: &mut Vec<u32>) {
 /// ```
 pub fn subtract_all_len(sets: &[&IdSet]) -> usize {
     count(Operation::AndNot, sets)
+}
+
+/// Any number of sets combined into a set. A call allocates as many bytes as all sets have, more if the answer has more, and 16 for each chunk, or for
+/// each id of a set that is not in chunks, but at most 1 MB of these.
+impl IdSetBuf {
+    /// Returns the set of the ids that all sets have. Of no sets it has none.
+    ///
+    /// # Errors
+    ///
+    /// `Memory`.
+    ///
+    /// ```
+    /// use bitpacking::set::IdSetBuf;
+    ///
+    /// let [cats, dogs, old] = [[1, 4, 6, 9], [4, 6, 7, 9], [2, 6, 8, 9]].map(|ids| IdSetBuf::pack(&ids).unwrap());
+    /// assert_eq!(IdSetBuf::intersect_all(&[&cats, &dogs, &old])?.unpack(), [6, 9]);
+    /// # Ok::<(), bitpacking::set::Error>(())
+    /// ```
+    pub fn intersect_all(sets: &[&IdSet]) -> Result<IdSetBuf, Error> {
+        try_combine_set(Operation::And, sets)
+    }
+
+    /// Returns the set of the ids that at least one set has.
+    ///
+    /// # Errors
+    ///
+    /// `TooLong`, if there are more than 268,435,456 ids; `Memory`.
+    ///
+    /// ```
+    /// use bitpacking::set::IdSetBuf;
+    ///
+    /// let [cats, dogs, old] = [[1, 4, 6, 9], [4, 6, 7, 9], [2, 6, 8, 9]].map(|ids| IdSetBuf::pack(&ids).unwrap());
+    /// assert_eq!(IdSetBuf::unite_all(&[&cats, &dogs, &old])?.unpack(), [1, 2, 4, 6, 7, 8, 9]);
+    /// # Ok::<(), bitpacking::set::Error>(())
+    /// ```
+    pub fn unite_all(sets: &[&IdSet]) -> Result<IdSetBuf, Error> {
+        try_combine_set(Operation::Or, sets)
+    }
+
+    /// Returns the set of the ids of the first set that none of the others has. Of no sets it has none.
+    ///
+    /// # Errors
+    ///
+    /// `Memory`.
+    ///
+    /// ```
+    /// use bitpacking::set::IdSetBuf;
+    ///
+    /// let [cats, dogs, old] = [[1, 4, 6, 9], [4, 5, 7, 8], [2, 6, 8, 10]].map(|ids| IdSetBuf::pack(&ids).unwrap());
+    /// assert_eq!(IdSetBuf::subtract_all(&[&cats, &dogs, &old])?.unpack(), [1, 9]);
+    /// # Ok::<(), bitpacking::set::Error>(())
+    /// ```
+    pub fn subtract_all(sets: &[&IdSet]) -> Result<IdSetBuf, Error> {
+        try_combine_set(Operation::AndNot, sets)
+    }
+
+    /// Returns the set of the ids that an odd number of sets has.
+    ///
+    /// # Errors
+    ///
+    /// `TooLong`, if there are more than 268,435,456 ids; `Memory`.
+    ///
+    /// ```
+    /// use bitpacking::set::IdSetBuf;
+    ///
+    /// let [cats, dogs, old] = [[1, 4, 6, 9], [4, 6, 7, 9], [2, 6, 8, 9]].map(|ids| IdSetBuf::pack(&ids).unwrap());
+    /// assert_eq!(IdSetBuf::symmetric_difference_all(&[&cats, &dogs, &old])?.unpack(), [1, 2, 6, 7, 8, 9]);
+    /// # Ok::<(), bitpacking::set::Error>(())
+    /// ```
+    pub fn symmetric_difference_all(sets: &[&IdSet]) -> Result<IdSetBuf, Error> {
+        try_combine_set(Operation::Xor, sets)
+    }
 }

@@ -5,8 +5,10 @@ use alloc::vec::Vec;
 use core::fmt;
 use core::ops::{BitAnd, BitOr, BitXor, Sub};
 
+use super::combining::written;
 use super::query_ids::{Later, QueryIds};
-use super::{IdSet, IdSetBuf};
+use super::{Error, IdSet, IdSetBuf};
+use crate::growing::Growing;
 use crate::queries;
 use crate::queries::Step;
 use crate::sets;
@@ -29,16 +31,19 @@ const MOST_WAITING: usize = 64;
 pub enum QueryError {
     /// More than 64 operands wait at once.
     TooDeep,
-    /// There is no memory for the operands that wait.
+    /// There is no memory for the operands that wait, or for the set.
     Memory,
+    /// The set would have this many ids, and so more than 268,435,456.
+    TooLong(usize),
 }
 
 impl fmt::Display for QueryError {
     fn fmt(&self, f: &mut fmt::Formatter<'_>) -> fmt::Result {
-        f.write_str(match self {
-            QueryError::TooDeep => "more than 64 operands wait for operations",
-            QueryError::Memory => "out of memory",
-        })
+        match self {
+            QueryError::TooDeep => f.write_str("more than 64 operands wait for operations"),
+            QueryError::Memory => f.write_str("out of memory"),
+            QueryError::TooLong(count) => Error::TooLong(*count).fmt(f),
+        }
     }
 }
 
@@ -242,6 +247,38 @@ impl<'a> Query<'a> {
         ids.clear();
         left.for_each_part(|part| ids.extend_from_slice(part));
         Ok(())
+    }
+
+    /// Returns the set of all ids. Allocates its bytes, 8 KB for each operand that waits at once, and 16 bytes for each chunk of the sets, or for
+    /// each id of a set that is not in chunks, but at most 1 MB.
+    ///
+    /// # Errors
+    ///
+    /// `TooDeep`, if more than 64 operands wait at once; `TooLong`, if there are more than 268,435,456 ids; `Memory`.
+    ///
+    /// ```
+    /// use bitpacking::set::{IdSetBuf, Query};
+    ///
+    /// let [cats, dogs, old] = [[1, 4, 6, 9], [4, 6, 7, 8], [2, 6, 8, 9]].map(|ids| IdSetBuf::pack(&ids).unwrap());
+    /// let young: IdSetBuf = ((Query::from(&cats) | &dogs) - &old).pack()?;
+    /// assert_eq!(young.unpack(), [1, 4, 7]);
+    /// # Ok::<(), bitpacking::set::QueryError>(())
+    /// ```
+    pub fn pack(&self) -> Result<IdSetBuf, QueryError> {
+        if self.waiting > MOST_WAITING {
+            return Err(QueryError::TooDeep);
+        }
+        let mut bitmaps = Vec::new();
+        bitmaps.try_resize(self.waiting, [0; 1024]).map_err(|_| QueryError::Memory)?;
+        let most = self.sets.iter().map(|set| set.parts().rest.len()).fold(0, usize::saturating_add);
+        let packed = written(queries::combine_room(&self.sets), most, |room, bytes| {
+            // Each step joins two queries, and there is a bitmap for each operand that waits, so that the steps have no fault.
+            queries::query_set_to(&self.sets, &self.steps, &mut bitmaps, room, bytes).expect("steps without a fault")
+        });
+        packed.map_err(|error| match error {
+            Error::TooLong(count) => QueryError::TooLong(count),
+            _ => QueryError::Memory,
+        })
     }
 
     /// Returns how many ids there are. Allocates as [`ids`](Query::ids) does.

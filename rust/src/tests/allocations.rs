@@ -180,6 +180,9 @@ fn combining_sets() {
                 1, 2 * 8192 => query.ids().unwrap().take(1000).count();
                 1, 2 * 8192 => query.unpack_into(&mut ids);
                 1, 3 * 8192 => more.count();
+                6, set_of(&or) + 2 * 8192 => query.pack().unwrap();
+                6, set_of(&not) + room + 3 * 8192 => more.pack().unwrap();
+                6, set_of(&or) + room => IdSetBuf::unite_all(&[one, other, one]);
             }
         }
     }

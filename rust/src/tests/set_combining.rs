@@ -101,6 +101,11 @@ fn many_sets() {
         let shared: Vec<u32> = first.iter().copied().filter(|id| rest.iter().all(|model| model.contains(id))).collect();
         let any = listed(&models.iter().flatten().copied().collect());
         let alone: Vec<u32> = first.iter().copied().filter(|id| rest.iter().all(|model| !model.contains(id))).collect();
+        let odd = listed(&models.iter().fold(Model::new(), |model, other| &model ^ other));
+        let to_sets = [IdSetBuf::intersect_all, IdSetBuf::unite_all, IdSetBuf::subtract_all, IdSetBuf::symmetric_difference_all];
+        for (to_set, right) in to_sets.iter().zip([&shared, &any, &alone, &odd]) {
+            assert_eq!(to_set(&sets).unwrap().as_bytes(), IdSetBuf::pack(right).unwrap().as_bytes());
+        }
         assert_eq!([intersect_all(&sets), unite_all(&sets), subtract_all(&sets)], [shared.clone(), any.clone(), alone.clone()]);
         assert_eq!(
             [intersect_all_len(&sets), unite_all_len(&sets), subtract_all_len(&sets)],
@@ -141,6 +146,9 @@ fn more_ids_than_a_set_has() {
     }
     for call in [IdSet::try_unite, IdSet::try_symmetric_difference] {
         assert_eq!(call(&one, &other).err(), Some(Error::TooLong(1 << 29)));
+    }
+    for call in [IdSetBuf::unite_all, IdSetBuf::symmetric_difference_all] {
+        assert_eq!(call(&[&one, &other, &IdSetBuf::default()]).err(), Some(Error::TooLong(1 << 29)));
     }
     assert_eq!(one.try_intersect(&other), Ok(IdSetBuf::default()));
     assert_eq!(one.try_subtract(&one), Ok(IdSetBuf::default()));

@@ -5,6 +5,7 @@ use std::thread;
 
 use super::set_iter::walks;
 use super::set_models::{FORMS, Model, Numbers, listed, packed, some_ids, used};
+use super::set_reading::longest;
 use crate::set::{IdSetBuf, Query, QueryError, QueryIds};
 
 /// A query of up to `left` sets, by methods and operators, and its ids.
@@ -43,6 +44,7 @@ fn trees_of_sets() {
         let (query, model) = some_query(&mut numbers, &sets, &models, left);
         let ids = listed(&model);
         assert_eq!((query.unpack().unwrap(), query.count()), (ids.clone(), Ok(ids.len())));
+        assert_eq!(query.pack().unwrap().as_bytes(), IdSetBuf::pack(&ids).unwrap().as_bytes());
         let mut vector = used(&mut numbers);
         query.unpack_into(&mut vector).unwrap();
         assert_eq!(vector, ids);
@@ -138,8 +140,17 @@ fn too_many_operands() {
         Query::from(&sets[0]).and_not(&deep),
         (Query::from(&sets[0]) & &sets[1]).and_not(&deep),
     ] {
-        assert_eq!((query.unpack(), query.count()), (Err(error), Err(error)));
+        assert_eq!((query.unpack(), query.count(), query.pack()), (Err(error), Err(error), Err(error)));
         assert_eq!((query.unpack_into(&mut ids), &ids[..]), (Err(error), &[3, 2][..]));
     }
     assert!(std::string::ToString::to_string(&deep.count().unwrap_err()).contains("more than 64 operands"));
+}
+
+#[test]
+fn more_ids_than_a_set_has() {
+    let (one, other) = (IdSetBuf::open(longest(0)).unwrap(), IdSetBuf::open(longest(4096)).unwrap());
+    let error = (Query::from(&one) | &other).pack().unwrap_err();
+    assert_eq!(error, QueryError::TooLong(1 << 29));
+    assert!(std::string::ToString::to_string(&error).contains("536870912 ids are more than 268435456"));
+    assert_eq!((Query::from(&one) - (Query::from(&one) & &other)).pack(), Ok(one));
 }

@@ -51,18 +51,19 @@ const fn entries(file: File, of: &'static str, functions: &'static [&'static str
 
 /// What the functions for Rust and for C call, if it reads or writes more than a few bytes. Blocks of 128 and of 32 values gain less than the choice
 /// costs, and so does one value of a column.
-pub const ENTRIES: [Entries; 24] = [
+pub const ENTRIES: [Entries; 25] = [
     entries(("bitpacking", "bitpacker8x.rt"), "BitPacker8x", &["pack_unmeasured", "unpack_counted", "width_counted"]),
     entries(("sets", "opening.rt"), "opening", &["test_encoding"]),
     entries(("queries", "combining.rt"), "combining", &["combine_to", "combine_count", "is_disjoint", "is_subset"]),
     entries(("queries", "combining_all.rt"), "combining_all", &["combine_all_to", "combine_all_count"]),
-    entries(("queries", "combining_sets.rt"), "combining_sets", &["combine_set_to"]),
+    entries(("queries", "combining_all_sets.rt"), "combining_all_sets", &["combine_all_set_to"]),
     entries(("queries", "in_place.rt"), "in_place", &["retain", "remove", "add", "add_to", "retain_if"]),
     entries(("sets", "encoding.rt"), "encoding", &["encode", "encode_to", "encoded_len"]),
     entries(("sets", "appending.rt"), "appending", &["append", "append_to"]),
     entries(("sets", "id_set.rt"), "IdSet", &["contains", "rank", "select", "seek", "append_to", "copy_to", "copy_range"]),
     entries(("queries", "query.rt"), "Query", &["next_ids"]),
     entries(("queries", "query.rt"), "query", &["query_to"]),
+    entries(("queries", "query/packing.rt"), "query::packing", &["query_set_to"]),
     entries(("sets", "encoding/order.rt"), "encoding::order", &["first_unsorted"]),
     entries(("columns", "opening.rt"), "opening", &["test_column"]),
     entries(("columns", "encoding.rt"), "encoding", &["encode", "encode_to", "encoded_len"]),

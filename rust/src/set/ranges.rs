@@ -1,0 +1,174 @@
+//! Ranges of ids as sets, and ids and ranges that are put into sets and taken out.
+
+use alloc::vec::Vec;
+use core::ops::{Bound, RangeBounds};
+
+use super::combining::try_combine_set;
+use super::packing::packed;
+use super::{Error, IdSet, IdSetBuf};
+use crate::growing::Growing;
+use crate::sets;
+use crate::slices::Operation;
+
+/// The most ids of a set.
+const MOST: usize = 1 << 28;
+
+/// Where the ids of a range begin, and before what they end.
+fn limits(range: impl RangeBounds<u32>) -> (u64, u64) {
+    let first = match range.start_bound() {
+        Bound::Included(&id) => u64::from(id),
+        Bound::Excluded(&id) => u64::from(id) + 1,
+        Bound::Unbounded => 0,
+    };
+    let end = match range.end_bound() {
+        Bound::Included(&id) => u64::from(id) + 1,
+        Bound::Excluded(&id) => u64::from(id),
+        Bound::Unbounded => 1 << 32,
+    };
+    (first, end)
+}
+
+/// The set of the ids from `first` to before `end`.
+fn set_of((first, end): (u64, u64)) -> Result<IdSetBuf, Error> {
+    // No id is above the last.
+    let (first, end) = u32::try_from(first).map_or((0, 0), |first| (first, end));
+    packed(|bytes| {
+        bytes.try_resize(sets::encoded_range_len(first, end)?, 0).map_err(|_| Error::Memory)?;
+        sets::encode_range_to(first, end, bytes)?;
+        Ok(())
+    })
+}
+
+/// The sets of these ids, each of at most as many as a set has.
+fn sets_of((first, end): (u64, u64)) -> Result<Vec<IdSetBuf>, Error> {
+    (first..end).step_by(MOST).map(|first| set_of((first, end.min(first + MOST as u64)))).collect()
+}
+
+impl IdSetBuf {
+    /// Returns the set of all ids of a range. They are not listed: it takes time, and allocates, in proportion to the bytes of the set.
+    ///
+    /// # Errors
+    ///
+    /// `TooLong`, if there are more than 268,435,456 ids; `Memory`.
+    ///
+    /// ```
+    /// use bitpacking::set::{Error, IdSetBuf};
+    ///
+    /// let set = IdSetBuf::from_range(5..10_000_000)?;
+    /// assert_eq!((set.len(), set.min(), set.max(), set.as_bytes().len()), (9_999_995, Some(5), Some(9_999_999), 1693));
+    /// assert_eq!(IdSetBuf::from_range(..), Err(Error::TooLong(1 << 32)));
+    /// # Ok::<(), Error>(())
+    /// ```
+    pub fn from_range(range: impl RangeBounds<u32>) -> Result<IdSetBuf, Error> {
+        set_of(limits(range))
+    }
+
+    /// Puts an id into the set, and returns whether the set lacked it. The set is replaced by another one: that takes as long as to copy its bytes.
+    ///
+    /// # Errors
+    ///
+    /// `TooLong`, if the set has 268,435,456 other ids; `Memory`. The set is then unchanged.
+    ///
+    /// ```
+    /// use bitpacking::set::IdSetBuf;
+    ///
+    /// let mut set = IdSetBuf::pack(&[1, 4])?;
+    /// assert!(set.insert(3)? && !set.insert(4)?);
+    /// assert_eq!(set.unpack(), [1, 3, 4]);
+    /// # Ok::<(), bitpacking::set::Error>(())
+    /// ```
+    pub fn insert(&mut self, id: u32) -> Result<bool, Error> {
+        let lacks = !self.contains(id);
+        if lacks {
+            self.insert_range(id..=id)?;
+        }
+        Ok(lacks)
+    }
+
+    /// Takes an id out of the set, and returns whether the set had it. The set is replaced by another one: that takes as long as to copy its bytes.
+    ///
+    /// # Errors
+    ///
+    /// `Memory`. The set is then unchanged.
+    ///
+    /// ```
+    /// use bitpacking::set::IdSetBuf;
+    ///
+    /// let mut set = IdSetBuf::pack(&[1, 3, 4])?;
+    /// assert!(set.remove(3)? && !set.remove(2)?);
+    /// assert_eq!(set.unpack(), [1, 4]);
+    /// # Ok::<(), bitpacking::set::Error>(())
+    /// ```
+    pub fn remove(&mut self, id: u32) -> Result<bool, Error> {
+        let has = self.contains(id);
+        if has {
+            self.remove_range(id..=id)?;
+        }
+        Ok(has)
+    }
+
+    /// Puts all ids of a range into the set, which is replaced by another one.
+    ///
+    /// # Errors
+    ///
+    /// `TooLong`, if the range or the set would have more than 268,435,456 ids; `Memory`. The set is then unchanged.
+    ///
+    /// ```
+    /// use bitpacking::set::IdSetBuf;
+    ///
+    /// let mut set = IdSetBuf::pack(&[1, 4, 9])?;
+    /// set.insert_range(3..6)?;
+    /// assert_eq!(set.unpack(), [1, 3, 4, 5, 9]);
+    /// # Ok::<(), bitpacking::set::Error>(())
+    /// ```
+    pub fn insert_range(&mut self, range: impl RangeBounds<u32>) -> Result<(), Error> {
+        let ids = IdSetBuf::from_range(range)?;
+        *self = self.try_unite(&ids)?;
+        Ok(())
+    }
+
+    /// Takes all ids of a range out of the set, which is replaced by another one.
+    ///
+    /// # Errors
+    ///
+    /// `Memory`. The set is then unchanged.
+    ///
+    /// ```
+    /// use bitpacking::set::IdSetBuf;
+    ///
+    /// let mut set = IdSetBuf::pack(&[1, 4, 5, 9])?;
+    /// set.remove_range(4..)?;
+    /// assert_eq!(set.unpack(), [1]);
+    /// # Ok::<(), bitpacking::set::Error>(())
+    /// ```
+    pub fn remove_range(&mut self, range: impl RangeBounds<u32>) -> Result<(), Error> {
+        let ranges = sets_of(limits(range))?;
+        let sets: Vec<&IdSet> = core::iter::once(&**self).chain(ranges.iter().map(|set| &**set)).collect();
+        *self = try_combine_set(Operation::AndNot, &sets)?;
+        Ok(())
+    }
+}
+
+impl IdSet {
+    /// Returns the set of the integers below `end` that this set lacks. An end above 2^32 is as 2^32.
+    ///
+    /// # Errors
+    ///
+    /// `TooLong`, if there are more than 268,435,456; `Memory`.
+    ///
+    /// ```
+    /// use bitpacking::set::IdSetBuf;
+    ///
+    /// let set = IdSetBuf::pack(&[1, 4, 9])?;
+    /// assert_eq!(set.complement(6)?.unpack(), [0, 2, 3, 5]);
+    /// # Ok::<(), bitpacking::set::Error>(())
+    /// ```
+    pub fn complement(&self, end: u64) -> Result<IdSetBuf, Error> {
+        let mut lacked = sets_of((0, end.min(1 << 32)))?;
+        for range in &mut lacked {
+            *range = range.try_subtract(self)?;
+        }
+        let sets: Vec<&IdSet> = lacked.iter().map(|set| &**set).collect();
+        try_combine_set(Operation::Or, &sets)
+    }
+}
