@@ -25,7 +25,7 @@ MARK = b"shard2\0\0"
 # Where a word and its set end, from the first word and the first set on, and the CRC-32 of the set.
 ROWS = np.dtype([("word", "<u4"), ("set", "<u4"), ("crc", "<u4")])
 NONE = fimulowen.IdSet()
-CALLS = {"and": fimulowen.intersect, "or": fimulowen.unite, "not": fimulowen.subtract}
+CALLS = {"and": fimulowen.IdSet.intersection, "or": fimulowen.IdSet.union, "not": fimulowen.IdSet.difference}
 COUNTS = {"and": fimulowen.intersect_len, "or": fimulowen.unite_len, "not": fimulowen.subtract_len}
 
 
@@ -133,7 +133,7 @@ class Shard:
         """The documents of a query, as a set. A query is a word, or ("and" | "or" | "not", query, ..)."""
         if isinstance(query, str):
             return self.ids(query)
-        return fimulowen.IdSet(CALLS[query[0]](*map(self.answer, query[1:])))
+        return CALLS[query[0]](*map(self.answer, query[1:]))
 
     def count(self, query):
         """How many documents a query has."""

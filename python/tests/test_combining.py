@@ -92,6 +92,28 @@ def test_forms(one):
             assert found.tobytes() == IdSet.open(found.tobytes()).tobytes()
 
 
+def test_many():
+    """Any number of sets to a set, beside the sets of Python."""
+    chance = np.random.default_rng(11)
+    for count in (1, 2, 3, 4, 7, 30):
+        forms = [FORMS[it] for it in chance.choice(list(FORMS), count)]
+        (first, *rest), (one, *others) = [set(it) for it in forms], [IdSet(it) for it in forms]
+        odd = set(first)
+        for it in rest:
+            odd ^= it
+        for call, wanted in (
+            (IdSet.intersection, first.intersection(*rest)),
+            (IdSet.union, first.union(*rest)),
+            (IdSet.difference, first.difference(*rest)),
+            (IdSet.symmetric_difference, odd),
+        ):
+            found = call(one, *others)
+            assert type(found) is IdSet and found.tobytes() == IdSet(sorted(wanted)).tobytes(), (count, call)
+    assert IdSet([1, 5]).union([7], iter([3]), range(9, 11)) == IdSet([1, 3, 5, 7, 9, 10])
+    with pytest.raises(TypeError):
+        IdSet().union(5)
+
+
 def test_more_bytes_than_both():
     """A chunk without gaps has few bytes, and without many ids it has thousands."""
     full, some = IdSet(range(1 << 22)), IdSet(np.cumsum(np.random.default_rng(5).integers(1, 40, 200_000)))

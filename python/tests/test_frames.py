@@ -87,6 +87,8 @@ def test_counts():
         with pytest.raises(Error, match="More than 268,435,456") as raised:
             packed.complement(many)
         assert raised.value.fault == "TooLong"
+    whole = packed.complement(2**28 + 2)
+    assert len(whole) == 2**28 and whole.isdisjoint(packed) and whole.max() == 2**28 + 1
 
 
 @given(st.lists(st.integers(-1, 40), max_size=400), st.integers(0, 3), st.sampled_from(["i1", "i2", "i8", ">i4", "O"]))

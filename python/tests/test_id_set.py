@@ -34,6 +34,22 @@ def arrays(draw, most=3000):
     return ids[(ids >= 0) & (ids <= MOST)].astype("u4")
 
 
+def test_ranges():
+    """A range is not listed, and has the bytes of its ids."""
+    for first in (0, 1, 65_520, 65_535, 200_000, MOST - 70_000):
+        for count in (0, 1, 15, 16, 127, 128, 129, 65_536, 70_001):
+            ids = range(first, first + count)
+            assert IdSet(ids).tobytes() == IdSet(np.arange(first, first + count)).tobytes() == IdSet(ids[::-1]).tobytes()
+    assert list(IdSet(range(3, 20, 8))) == [3, 11, 19] and list(IdSet(range(5, 3))) == [] and len(IdSet(range(2**28))) == 2**28
+    assert IdSet(range(MOST, MOST + 1)).max() == MOST
+    for wrong in (range(-1, 3), range(MOST, MOST + 2), range(MOST + 1, MOST + 2)):
+        with pytest.raises(OverflowError):
+            IdSet(wrong)
+    with pytest.raises(Error, match="more than 268435456") as raised:
+        IdSet(range(2**28 + 1))
+    assert raised.value.fault == "TooLong"
+
+
 @pytest.fixture(params=[0, 1, 2, 127, 128, 129, 1000, 100_000])
 def ids(request):
     return np.sort(RANDOM.choice(1 << 20, request.param, replace=False)).astype("u4")
@@ -302,8 +318,8 @@ def test_core_refuses_other_arrays():
     for wrong in ([packed], (packed, 1), (None,), None):
         with pytest.raises((TypeError, SystemError)):
             core.set_combine(0, wrong)
-        with pytest.raises(TypeError):
-            core.set_join(IdSet, 0, packed, wrong)
+        with pytest.raises((TypeError, SystemError)):
+            core.set_join(IdSet, 0, wrong)
     with pytest.raises(Error):
         packed._remove(np.array([2, 1], "u4"))
     for wrong, error in ((-1, OverflowError), (2, IndexError), ("1", TypeError)):
@@ -315,7 +331,7 @@ def test_core_refuses_other_arrays():
         with pytest.raises(ValueError):
             core.set_combine(call, (packed, packed))
         with pytest.raises(ValueError):
-            core.set_join(IdSet, call, packed, packed)
+            core.set_join(IdSet, call, (packed, packed))
     with pytest.raises(ValueError):
         core.set_combine(3, (packed,))
     for wrong in (int, 5, object, core.Packed, None):
@@ -323,7 +339,7 @@ def test_core_refuses_other_arrays():
             with pytest.raises(TypeError):
                 call(wrong, np.zeros(1, "u4"))
         with pytest.raises(TypeError):
-            core.set_join(wrong, 0, packed, packed)
+            core.set_join(wrong, 0, (packed,))
     for call in (core.Set, core.Packed, lambda: object.__new__(IdSet), lambda: packed._is_disjoint(5)):
         with pytest.raises(TypeError):
             call()

@@ -40,7 +40,7 @@ def join(given_tree):
 def test_trees(tree, target):
     query, wanted = tree[0], sorted(tree[1])
     assert type(query) is Query and list(query) == wanted == query.unpack().tolist() and len(query) == len(wanted)
-    assert bool(query) == bool(wanted) and IdSet(query) == IdSet(wanted)
+    assert bool(query) == bool(wanted) and IdSet(query) == query.pack() == IdSet(wanted) and type(query.pack()) is IdSet
     for target in (target, *wanted[:2], *wanted[-2:]):
         assert query.seek(target) == min((it for it in wanted if it >= target), default=None)
         assert np.concatenate([[0], *query.parts(target)])[1:].tolist() == [it for it in wanted if it >= target]

@@ -69,7 +69,7 @@ UNLOCKED = {
     "unite": lambda it: _core.set_combine(UNITE, it.pair),
     "subtract": lambda it: _core.set_combine(SUBTRACT, it.pair),
     "symmetric_difference": lambda it: _core.set_combine(XOR, it.pair),
-    "set_join": lambda it: _core.set_join(IdSet, UNITE, it.a, it.b),
+    "set_join": lambda it: _core.set_join(IdSet, UNITE, it.pair),
     "intersect_len": lambda it: _core.set_count(INTERSECT, it.pair),
     "unite_len": lambda it: _core.set_count(UNITE, it.pair),
     "slice": lambda it: it.a[:],

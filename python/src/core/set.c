@@ -78,6 +78,30 @@ static PyObject *set_pack(PyObject *m, PyObject *args)
     return made;
 }
 
+/* set_range(type, first, end): the set of the ids from `first` to before `end`. */
+static PyObject *set_range(PyObject *m, PyObject *args)
+{
+    PyObject *type, *made = NULL;
+    unsigned int first;
+    unsigned long long end;
+    ptrdiff_t size;
+    uint8_t *to;
+
+    (void)m;
+    if (!PyArg_ParseTuple(args, "OIK", &type, &first, &end) || !subtype_of(Set_type, type))
+        return NULL;
+    size = bitpacking_set_range_size(first, end);
+    if (size < 0)
+        return fail(size);
+    to = PyMem_Malloc((size_t)size);
+    if (!to)
+        return PyErr_NoMemory();
+    size = bitpacking_set_pack_range(first, end, to, (size_t)size);
+    made = size < 0 ? fail(size) : (PyObject *)set_of((PyTypeObject *)type, to, (size_t)size);
+    PyMem_Free(to);
+    return made;
+}
+
 /* The set of the ids of a view and of these after them. */
 static Packed *appended(PyTypeObject *type, const bitpacking_set *view, const uint32_t *ids, size_t len)
 {
@@ -134,6 +158,7 @@ PyType_Spec Set_spec = {"fimulowen._core.Set", sizeof(Set), 0,
 PyMethodDef set_functions[] = {
     {"set_open", set_open, METH_VARARGS, SIGNED("set_open(type, data, /)", "A set.")},
     {"set_open_many", set_open_many, METH_VARARGS, SIGNED("set_open_many(type, data, bounds, /)", "Sets.")},
+    {"set_range", set_range, METH_VARARGS, SIGNED("set_range(type, first, end, /)", "The set of the ids of a range.")},
     {"set_pack", set_pack, METH_VARARGS, SIGNED("set_pack(type, ids, /)", "A set, or None if the ids do not increase.")},
     {"set_append", set_append, METH_VARARGS, SIGNED("set_append(type, set, ids, /)", "A set.")},
     {NULL, NULL, 0, NULL},

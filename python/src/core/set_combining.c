@@ -95,21 +95,22 @@ static PyObject *set_combine(PyObject *m, PyObject *args)
     return array;
 }
 
-/* The set that an operation gives. Room for the bytes of both sets, and of a chunk more, is usually enough. It doubles until it is. */
-static Packed *joined(PyTypeObject *type, uint32_t operation, const bitpacking_set *one, const bitpacking_set *other)
+/* The set that an operation on sets gives. Room for the bytes of all, and of a chunk more, is usually enough. It doubles until it is. */
+static Packed *joined(PyTypeObject *type, uint32_t operation, const bitpacking_set *views, size_t len)
 {
-    size_t items = bitpacking_set_combine_room(one, other), room = one->bytes_len + other->bytes_len + CHUNK;
+    size_t items = bitpacking_set_combine_room(views, len), room = CHUNK, i;
     uint32_t *work = PyMem_Malloc(4 * items + 4);
     uint8_t *to = NULL;
     Packed *made = NULL;
     ptrdiff_t size = BITPACKING_SHORT;
 
+    for (i = 0; i < len; i++)
+        room += views[i].bytes_len;
     for (; work && size == BITPACKING_SHORT; room *= 2) {
         PyMem_Free(to);
         if (!(to = PyMem_Malloc(room)))
             break;
-        UNLOCKED(bitpacking_set_len(one) + bitpacking_set_len(other),
-                 size = bitpacking_set_combine(operation, one, other, work, items, to, room));
+        UNLOCKED(all_of(views, len), size = bitpacking_set_combine(operation, views, len, work, items, to, room));
     }
     if (!work || !to)
         PyErr_NoMemory();
@@ -122,21 +123,23 @@ static Packed *joined(PyTypeObject *type, uint32_t operation, const bitpacking_s
     return made;
 }
 
-/* set_join(type, call, one, other): the set that an operation on two sets gives. */
+/* set_join(type, call, sets): the set that an operation on a tuple of sets gives. */
 static PyObject *set_join(PyObject *m, PyObject *args)
 {
     static const uint32_t operations[] = {BITPACKING_AND, BITPACKING_OR, BITPACKING_AND_NOT, BITPACKING_XOR};
-    PyObject *type, *one, *other;
+    PyObject *type, *sets, *made = NULL;
+    bitpacking_set *views;
     int call;
 
     (void)m;
-    if (!PyArg_ParseTuple(args, "OiO!O!", &type, &call, Set_type, &one, Set_type, &other) || !subtype_of(Set_type, type))
+    if (!PyArg_ParseTuple(args, "OiO", &type, &call, &sets) || !subtype_of(Set_type, type) || !(views = views_of(sets)))
         return NULL;
-    if (call < INTERSECT || call > XOR) {
+    if (call < INTERSECT || call > XOR)
         PyErr_SetString(PyExc_ValueError, "there is no such call");
-        return NULL;
-    }
-    return (PyObject *)joined((PyTypeObject *)type, operations[call], &((Set *)one)->view, &((Set *)other)->view);
+    else
+        made = (PyObject *)joined((PyTypeObject *)type, operations[call], views, (size_t)PyTuple_Size(sets));
+    PyMem_Free(views);
+    return made;
 }
 
 /* set_count(call, sets): how many ids all sets have, or any. */
@@ -160,7 +163,7 @@ static PyObject *set_count(PyObject *m, PyObject *args)
 
 PyMethodDef combining_functions[] = {
     {"set_combine", set_combine, METH_VARARGS, SIGNED("set_combine(call, sets, /)", "An array.")},
-    {"set_join", set_join, METH_VARARGS, SIGNED("set_join(type, call, one, other, /)", "A set.")},
+    {"set_join", set_join, METH_VARARGS, SIGNED("set_join(type, call, sets, /)", "A set.")},
     {"set_count", set_count, METH_VARARGS, SIGNED("set_count(call, sets, /)", "How many ids all sets have, or any.")},
     {NULL, NULL, 0, NULL},
 };

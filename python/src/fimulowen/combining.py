@@ -2,13 +2,12 @@
 
 from __future__ import annotations
 
-from functools import reduce
 from typing import Tuple
 
 import numpy as np
 import numpy.typing as npt
 
-from .id_set import INTERSECT, SUBTRACT, UNITE, XOR, IdSet, as_set, combined, counted
+from .id_set import INTERSECT, SUBTRACT, UNITE, XOR, IdSet, as_set, combined, counted, joined
 from .values import Integers
 
 
@@ -30,7 +29,7 @@ def subtract(first: Integers, *others: Integers) -> npt.NDArray[np.uint32]:
 def symmetric_difference(*sets: Integers) -> npt.NDArray[np.uint32]:
     """The ids that an odd number of the sets have, as an array: of two sets, those that one of them has."""
     *before, last = _sets(sets) or (IdSet(),)
-    return combined(XOR, (reduce(lambda one, other: one ^ other, before), last)) if before else last.unpack()
+    return combined(XOR, (joined(XOR, before), last)) if before else last.unpack()
 
 
 def intersect_len(*sets: Integers) -> int:
@@ -54,7 +53,7 @@ def symmetric_difference_len(*sets: Integers) -> int:
     *before, last = _sets(sets) or (IdSet(),)
     if not before:
         return len(last)
-    one = reduce(lambda one, other: one ^ other, before)
+    one = joined(XOR, before)
     return len(one) + len(last) - 2 * intersect_len(one, last)
 
 

@@ -31,8 +31,12 @@ class IdSet(_core.Set):
     __array_ufunc__ = None  # array & set must not be a bitwise AND of numbers
 
     def __new__(cls, ids: Integers = ()) -> IdSet:
+        if hasattr(ids, "_node"):
+            ids = ids.pack()  # a query
         if isinstance(ids, IdSet):
             return ids if type(ids) is cls else cls.open(ids.data)
+        if isinstance(ids, range) and ids.step == 1 and 0 <= ids.start < ids.stop <= 1 << 32:
+            return _core.set_range(cls, ids.start, ids.stop)
         return cls._packed(u32(ids))
 
     @classmethod
@@ -42,7 +46,7 @@ class IdSet(_core.Set):
         if made is not None:
             return made
         parts = [_core.set_pack(cls, np.unique(ids[at : at + PART])) for at in range(0, len(ids), PART)]
-        return parts[0] if len(parts) == 1 else waiting.run(len(ids), _core.set_pack, cls, combined(UNITE, parts))
+        return parts[0] if len(parts) == 1 else joined(UNITE, parts, cls)
 
     @classmethod
     def open(cls, data: Bytes) -> IdSet:
@@ -101,8 +105,8 @@ class IdSet(_core.Set):
         end = min(_count(count), 1 << 32)
         if end - self.rank(end) > MOST:
             raise Error("More than 268,435,456 values.", "TooLong")
-        ids = np.arange(end, dtype="=u4")
-        return IdSet._packed(ids[: waiting.run(end, self._remove, ids)])
+        parts = [IdSet(range(at, min(at + MOST, end))) - self for at in range(0, end, MOST)]
+        return joined(UNITE, parts)
 
     def __and__(self, other: Integers) -> IdSet:
         """The ids of both."""
@@ -124,6 +128,22 @@ class IdSet(_core.Set):
         return _joined(SUBTRACT, other, self)
 
     __rand__, __ror__, __rxor__ = __and__, __or__, __xor__
+
+    def intersection(self, *others: Integers) -> IdSet:
+        """The ids that this set and all others have."""
+        return joined(INTERSECT, (self, *others))
+
+    def union(self, *others: Integers) -> IdSet:
+        """The ids that this set or any other has. Error if there are more than 268,435,456."""
+        return joined(UNITE, (self, *others))
+
+    def difference(self, *others: Integers) -> IdSet:
+        """The ids that only this set has."""
+        return joined(SUBTRACT, (self, *others))
+
+    def symmetric_difference(self, *others: Integers) -> IdSet:
+        """The ids that an odd number of the sets have. Error if there are more than 268,435,456."""
+        return joined(XOR, (self, *others))
 
     def isdisjoint(self, other: Integers) -> bool:
         """Whether no id is in both."""
@@ -247,8 +267,13 @@ def counted(call: int, sets: Sequence[IdSet]) -> int:
     return waiting.run(sum(map(len, sets)), _core.set_count, call, tuple(sets))
 
 
+def joined(call: int, sets: Iterable[Integers], kind: type = IdSet) -> Any:
+    """The set that sets give which are combined, from the first to the last."""
+    operands = tuple(map(as_set, sets))
+    return waiting.run(sum(map(len, operands)), _core.set_join, kind, call, operands)
+
+
 def _joined(call: int, one: Any, other: Any) -> Any:
     if not hasattr(one, "__iter__") or not hasattr(other, "__iter__") or hasattr(other, "_node"):
         return NotImplemented  # a query joins what is on its left too
-    sets = as_set(one), as_set(other)
-    return waiting.run(sum(map(len, sets)), _core.set_join, IdSet, call, *sets)
+    return joined(call, (one, other))

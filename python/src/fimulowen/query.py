@@ -17,6 +17,12 @@ _Node = Union[IdSet, Tuple[Callable[..., np.ndarray], Tuple[Any, ...]]]
 # A recursive call as `_run` runs it: it yields the calls that it waits for.
 _Steps = Generator[Any, Any, Any]
 _LEAST, _MOST, _FEW, _MANY = 1 << 16, 1 << 24, 1 << 12, 1 << 17
+_CALLS = {
+    intersect: IdSet.intersection,
+    unite: IdSet.union,
+    subtract: IdSet.difference,
+    symmetric_difference: IdSet.symmetric_difference,
+}
 _SIGNS = {intersect: "&", unite: "|", subtract: "-", symmetric_difference: "^"}
 
 
@@ -79,6 +85,10 @@ class Query:
     def unpack(self) -> npt.NDArray[np.uint32]:
         """All ids, as an array."""
         return np.concatenate([np.empty(0, "u4"), *self.parts()])
+
+    def pack(self) -> IdSet:
+        """All ids, as a set. Error if there are more than 268,435,456, or if a part of the query has more."""
+        return _run(_packed(self._node))
 
     def __array__(self, dtype: npt.DTypeLike = None, copy: Optional[bool] = None) -> np.ndarray:
         if copy is False:
@@ -143,6 +153,17 @@ def _within(node: _Node, low: int, high: int) -> _Steps:
         else:
             found.append(it if is_cut and found else IdSet._packed(it.range(low, high)))
     return call(*found)
+
+
+def _packed(node: _Node) -> _Steps:
+    """The set of the node."""
+    if isinstance(node, IdSet):
+        return node
+    call, operands = node
+    sets = []
+    for it in operands:
+        sets.append(it if isinstance(it, IdSet) else (yield _packed(it)))
+    return _CALLS[call](*sets)
 
 
 def _postfix(node: _Node) -> List[Any]:
