@@ -2,16 +2,23 @@
  * are left out. Without a row that is not null the answer is null. */
 #include "idset.h"
 
+#include "miscadmin.h"
 #include "utils/memutils.h"
 
-/* Ids that were gathered. Those of an OR or a XOR are in any order until there is no room. */
-typedef struct {
-    uint32 *ids;
-    size_t len, room;
-    bool odd;
-} gathered;
+/* How much there is room for first. Sets are combined when so many wait, or so many bytes: fewer for an AND, whose set is short. The parts of
+ * numbers that are packed. */
+enum { FIRST_NUMBERS = 64, FIRST_SETS = 4, MANY_SETS = 256, LEVELS = 4, PART = 1 << 28 };
+enum { MANY_BYTES = 1 << 18, AND_BYTES = 1 << 14 };
 
-enum { FIRST_ROOM = 64 };
+/* What was collected of the rows: numbers in any order, and sets over copies of their bytes. The answer is what the operation gives of them. An OR
+ * and a XOR have no other order, so that sets are combined level by level: each set at a level comes from MANY_SETS of the level below. All sets
+ * have so many bytes, and had so many after all were combined. */
+typedef struct {
+    uint32 operation, *numbers;
+    size_t len, room;
+    bitpacking_set *sets;
+    size_t count, sets_room, bytes, before, at_level[LEVELS];
+} collected;
 
 static MemoryContext context_of(FunctionCallInfo fcinfo)
 {
@@ -22,38 +29,20 @@ static MemoryContext context_of(FunctionCallInfo fcinfo)
     return context;
 }
 
-static gathered *new_gathered(MemoryContext context, size_t room)
+static collected *new_collected(MemoryContext context)
 {
-    gathered *it = MemoryContextAlloc(context, sizeof *it);
+    collected *it = MemoryContextAllocZero(context, sizeof *it);
 
-    it->len = 0;
-    it->odd = false;
-    it->room = Max(room, FIRST_ROOM);
-    it->ids = MemoryContextAllocHuge(context, sizeof(uint32) * it->room);
+    it->operation = BITPACKING_OR;
     return it;
 }
 
 /* The state before this row, or a new one. */
-static gathered *state_of(FunctionCallInfo fcinfo)
+static collected *state_of(FunctionCallInfo fcinfo)
 {
     MemoryContext context = context_of(fcinfo);
 
-    return PG_ARGISNULL(0) ? new_gathered(context, 0) : (gathered *)PG_GETARG_POINTER(0);
-}
-
-/* Makes a set of what was gathered: of a XOR, the ids that came an odd number of times. */
-static void settle(gathered *it) { it->len = (it->odd ? kept_odd : made_set)(it->ids, it->len); }
-
-/* Makes room for more ids: first by leaving each once, then by doubling, so that the time for all is n log n. */
-static void make_room(gathered *it, size_t more)
-{
-    if (it->room - it->len >= more)
-        return;
-    settle(it);
-    if (it->len + more <= it->room / 2)
-        return;
-    it->room = 2 * (it->len + more);
-    it->ids = repalloc_huge(it->ids, sizeof(uint32) * it->room);
+    return PG_ARGISNULL(0) ? new_collected(context) : (collected *)PG_GETARG_POINTER(0);
 }
 
 /* The state before this row, which is left out. */
@@ -64,14 +53,146 @@ static Datum unchanged(FunctionCallInfo fcinfo)
     PG_RETURN_DATUM(PG_GETARG_DATUM(0));
 }
 
+/* An array in the memory of the state with room for more items. */
+static void *grown(collected *it, void *items, size_t size)
+{
+    return items ? repalloc_huge(items, size) : MemoryContextAllocHuge(GetMemoryChunkContext(it), size);
+}
+
+/* Makes a set of the numbers: of a XOR, those that came an odd number of times. */
+static void settle(collected *it) { it->len = (it->operation == BITPACKING_XOR ? kept_odd : made_set)(it->numbers, it->len); }
+
+/* Makes room for more numbers: first by leaving each once, then by doubling, so that the time for all is n log n. */
+static void make_room(collected *it, size_t more)
+{
+    if (it->room - it->len >= more)
+        return;
+    settle(it);
+    if (it->len + more <= it->room / 2)
+        return;
+    it->room = Max(2 * (it->len + more), FIRST_NUMBERS);
+    it->numbers = grown(it, it->numbers, sizeof(uint32) * it->room);
+}
+
+/* Puts a set over a copy of its bytes after the others. */
+static void push(collected *it, const uint8_t *bytes, size_t size)
+{
+    uint8_t *copy = MemoryContextAllocHuge(GetMemoryChunkContext(it), size);
+    bitpacking_set set = BITPACKING_SET_EMPTY;
+
+    if (it->count == it->sets_room) {
+        it->sets_room = Max(2 * it->count, FIRST_SETS);
+        it->sets = grown(it, it->sets, sizeof *it->sets * it->sets_room);
+    }
+    bitpacking_set_open_tested(memcpy(copy, bytes, size), size, &set);
+    it->sets[it->count++] = set;
+    it->bytes += size;
+}
+
+/* Combines the last sets into one. If it would have too many ids they stay: a XOR may have fewer at the end. */
+static void combine_last(collected *it, size_t count)
+{
+    bitpacking_set *last = it->sets + it->count - count;
+    struct varlena *value;
+    ptrdiff_t size;
+    size_t i;
+
+    CHECK_FOR_INTERRUPTS();
+    if (count < 2)
+        return;
+    size = combine(it->operation, last, count, &value);
+    for (i = 0; size >= 0 && i < count; i++) {
+        it->bytes -= last[i].bytes_len;
+        pfree((void *)last[i].bytes);
+        it->count--;
+    }
+    if (size >= 0)
+        push(it, (const uint8_t *)VARDATA(value), (size_t)size);
+    pfree(value);
+}
+
+/* Combines all sets into one, if there is one. */
+static void combine_all(collected *it)
+{
+    combine_last(it, it->count);
+    memset(it->at_level, 0, sizeof it->at_level);
+    it->before = it->bytes;
+}
+
+/* Takes a set. Ids that are not in chunks are fewer than four of a chunk, and are sorted faster than sets are combined. */
+static void take(collected *it, const bitpacking_set *set)
+{
+    size_t len = bitpacking_set_len(set), level;
+    bool is_and = it->operation == BITPACKING_AND;
+
+    if (is_and && it->count == 1 && bitpacking_set_len(it->sets) == 0)
+        return;
+    if (!is_and && bitpacking_set_combine_room(set, 1) > len) {
+        make_room(it, len);
+        it->len += (size_t)bitpacking_set_unpack(set, it->numbers + it->len, len);
+        return;
+    }
+    push(it, set->bytes, set->bytes_len);
+    for (level = 0; level < LEVELS && ++it->at_level[level] == MANY_SETS; level++) {
+        combine_last(it, MANY_SETS);
+        it->at_level[level] = 0;
+    }
+    if (it->bytes > (is_and ? AND_BYTES : MANY_BYTES) && it->bytes > 2 * it->before)
+        combine_all(it);
+}
+
+/* Puts the numbers after the sets, in parts that a set may have: a set without ids, if nothing is left. */
+static void push_numbers(collected *it)
+{
+    size_t from = 0, len, room;
+    uint8_t *bytes;
+    ptrdiff_t size;
+
+    settle(it);
+    if (it->len == 0 && it->count > 0)
+        return;
+    do {
+        len = Min(it->len - from, PART);
+        room = BITPACKING_SET_ROOM(len);
+        bytes = palloc_extended(room, MCXT_ALLOC_HUGE);
+        size = bitpacking_set_pack(it->numbers + from, len, bytes, room, NULL);
+        if (size < 0)
+            refuse(size);
+        push(it, bytes, (size_t)size);
+        pfree(bytes);
+    } while ((from += len) < it->len);
+    it->len = 0;
+}
+
+/* The set of all that was collected, or NULL if it would have too many ids. */
+static const bitpacking_set *whole(collected *it)
+{
+    push_numbers(it);
+    combine_all(it);
+    return it->count == 1 ? it->sets : NULL;
+}
+
+/* A value with the bytes of this set. */
+static struct varlena *value_of(const bitpacking_set *set)
+{
+    struct varlena *value;
+
+    if (!set)
+        refuse(BITPACKING_TOO_LONG);
+    value = palloc(VARHDRSZ + set->bytes_len);
+    SET_VARSIZE(value, VARHDRSZ + set->bytes_len);
+    memcpy(VARDATA(value), set->bytes, set->bytes_len);
+    return value;
+}
+
 /* The state with a number more. */
 static Datum with_number(FunctionCallInfo fcinfo, int64 number)
 {
     uint32 id = as_id(number);
-    gathered *it = state_of(fcinfo);
+    collected *it = state_of(fcinfo);
 
     make_room(it, 1);
-    it->ids[it->len++] = id;
+    it->numbers[it->len++] = id;
     PG_RETURN_POINTER(it);
 }
 
@@ -84,143 +205,102 @@ Datum idset_gather_int4(PG_FUNCTION_ARGS) { return PG_ARGISNULL(1) ? unchanged(f
 PG_FUNCTION_INFO_V1(idset_gather_int8);
 Datum idset_gather_int8(PG_FUNCTION_ARGS) { return PG_ARGISNULL(1) ? unchanged(fcinfo) : with_number(fcinfo, PG_GETARG_INT64(1)); }
 
-/* The state with all ids of a set too. */
-static gathered *with_set(FunctionCallInfo fcinfo, const bitpacking_set *set)
-{
-    gathered *it = state_of(fcinfo);
-    size_t len = bitpacking_set_len(set);
-
-    make_room(it, len);
-    it->len += (size_t)bitpacking_set_unpack(set, it->ids + it->len, len);
-    return it;
-}
-
-/* The state of an OR or a XOR with a row more. */
-static Datum with_row(FunctionCallInfo fcinfo, bool odd)
+/* The state with the set of a row too. */
+static Datum with_row(FunctionCallInfo fcinfo, uint32 operation)
 {
     bitpacking_set set;
-    gathered *it;
+    collected *it;
 
     if (PG_ARGISNULL(1))
         return unchanged(fcinfo);
     set = opened(PG_GETARG_VARLENA_PP(1));
-    it = with_set(fcinfo, &set);
-    it->odd = odd;
+    it = state_of(fcinfo);
+    it->operation = operation;
+    take(it, &set);
     PG_RETURN_POINTER(it);
 }
 
 PG_FUNCTION_INFO_V1(idset_gather_or);
-Datum idset_gather_or(PG_FUNCTION_ARGS) { return with_row(fcinfo, false); }
+Datum idset_gather_or(PG_FUNCTION_ARGS) { return with_row(fcinfo, BITPACKING_OR); }
 
 PG_FUNCTION_INFO_V1(idset_gather_xor);
-Datum idset_gather_xor(PG_FUNCTION_ARGS) { return with_row(fcinfo, true); }
-
-/* The state with those of its ids that a set has too, or with all of the first set. Its ids are a set. */
-static Datum with_common(FunctionCallInfo fcinfo, const bitpacking_set *set)
-{
-    gathered *it;
-    ptrdiff_t len;
-
-    if (PG_ARGISNULL(0))
-        PG_RETURN_POINTER(with_set(fcinfo, set));
-    it = state_of(fcinfo);
-    len = bitpacking_set_retain(set, it->ids, it->len);
-    if (len < 0)
-        refuse(len);
-    it->len = (size_t)len;
-    PG_RETURN_POINTER(it);
-}
+Datum idset_gather_xor(PG_FUNCTION_ARGS) { return with_row(fcinfo, BITPACKING_XOR); }
 
 PG_FUNCTION_INFO_V1(idset_gather_and);
-Datum idset_gather_and(PG_FUNCTION_ARGS)
-{
-    bitpacking_set set;
+Datum idset_gather_and(PG_FUNCTION_ARGS) { return with_row(fcinfo, BITPACKING_AND); }
 
-    if (PG_ARGISNULL(1))
-        return unchanged(fcinfo);
-    set = opened(PG_GETARG_VARLENA_PP(1));
-    return with_common(fcinfo, &set);
-}
-
-/* The ids of a state as a set. */
-static struct varlena *packed_state(gathered *it)
+/* Two states as one. */
+static Datum joined(FunctionCallInfo fcinfo, uint32 operation)
 {
-    settle(it);
-    return packed(it->ids, it->len);
-}
-
-/* Two states of an OR or a XOR as one. */
-static Datum joined(FunctionCallInfo fcinfo, bool odd)
-{
-    gathered *it, *other;
+    collected *it, *other;
+    size_t i;
 
     if (PG_ARGISNULL(1))
         return unchanged(fcinfo);
     it = state_of(fcinfo);
-    it->odd = odd;
-    other = (gathered *)PG_GETARG_POINTER(1);
-    make_room(it, other->len);
-    memcpy(it->ids + it->len, other->ids, sizeof(uint32) * other->len);
-    it->len += other->len;
+    it->operation = operation;
+    other = (collected *)PG_GETARG_POINTER(1);
+    push_numbers(other);
+    for (i = 0; i < other->count; i++)
+        take(it, &other->sets[i]);
     PG_RETURN_POINTER(it);
 }
 
 PG_FUNCTION_INFO_V1(idset_combine_or);
-Datum idset_combine_or(PG_FUNCTION_ARGS) { return joined(fcinfo, false); }
+Datum idset_combine_or(PG_FUNCTION_ARGS) { return joined(fcinfo, BITPACKING_OR); }
 
 PG_FUNCTION_INFO_V1(idset_combine_xor);
-Datum idset_combine_xor(PG_FUNCTION_ARGS) { return joined(fcinfo, true); }
+Datum idset_combine_xor(PG_FUNCTION_ARGS) { return joined(fcinfo, BITPACKING_XOR); }
 
-/* Two states of an AND as one. */
 PG_FUNCTION_INFO_V1(idset_combine_and);
-Datum idset_combine_and(PG_FUNCTION_ARGS)
-{
-    bitpacking_set set;
-
-    if (PG_ARGISNULL(1))
-        return unchanged(fcinfo);
-    set = opened(packed_state((gathered *)PG_GETARG_POINTER(1)));
-    return with_common(fcinfo, &set);
-}
+Datum idset_combine_and(PG_FUNCTION_ARGS) { return joined(fcinfo, BITPACKING_AND); }
 
 /* A state as the bytes of its set, for another process. */
 PG_FUNCTION_INFO_V1(idset_serialize);
 Datum idset_serialize(PG_FUNCTION_ARGS)
 {
     context_of(fcinfo);
-    PG_RETURN_POINTER(packed_state((gathered *)PG_GETARG_POINTER(0)));
+    PG_RETURN_POINTER(value_of(whole((collected *)PG_GETARG_POINTER(0))));
 }
 
 PG_FUNCTION_INFO_V1(idset_deserialize);
 Datum idset_deserialize(PG_FUNCTION_ARGS)
 {
     bitpacking_set set = opened(PG_GETARG_VARLENA_PP(0));
-    gathered *it = new_gathered(CurrentMemoryContext, bitpacking_set_len(&set));
+    collected *it = new_collected(CurrentMemoryContext);
 
     context_of(fcinfo);
-    it->len = (size_t)bitpacking_set_unpack(&set, it->ids, it->room);
+    push(it, set.bytes, set.bytes_len);
     PG_RETURN_POINTER(it);
 }
 
 PG_FUNCTION_INFO_V1(idset_final);
 Datum idset_final(PG_FUNCTION_ARGS)
 {
+    struct varlena *value;
+
     context_of(fcinfo);
     if (PG_ARGISNULL(0))
         PG_RETURN_NULL();
-    PG_RETURN_POINTER(packed_state((gathered *)PG_GETARG_POINTER(0)));
+    value = value_of(whole((collected *)PG_GETARG_POINTER(0)));
+    PG_RETURN_POINTER(ended(value, VARSIZE(value) - VARHDRSZ));
 }
 
-/* Only how many ids the set of all rows has. */
+/* Only how many ids the set of all rows has. An OR may have more than a set. */
 PG_FUNCTION_INFO_V1(idset_final_len);
 Datum idset_final_len(PG_FUNCTION_ARGS)
 {
-    gathered *it;
+    const bitpacking_set *set;
+    collected *it;
 
     context_of(fcinfo);
     if (PG_ARGISNULL(0))
         PG_RETURN_NULL();
-    it = (gathered *)PG_GETARG_POINTER(0);
-    settle(it);
-    PG_RETURN_INT64((int64)it->len);
+    it = (collected *)PG_GETARG_POINTER(0);
+    set = whole(it);
+    if (set)
+        PG_RETURN_INT64((int64)bitpacking_set_len(set));
+    if (it->operation != BITPACKING_OR)
+        refuse(BITPACKING_TOO_LONG);
+    PG_RETURN_INT64((int64)bitpacking_set_count_any(it->sets, it->count));
 }

@@ -33,6 +33,10 @@ const char *read_digits(const char *at, uint64 *number);
 uint32 as_id(int64 number);
 size_t rank_of(const bitpacking_set *set, int64 number);
 
+/* sets.c: what sets have together. */
+ptrdiff_t combine(uint32 operation, const bitpacking_set *sets, size_t count, struct varlena **value);
+Datum combined(uint32 operation, const bitpacking_set *sets, size_t count);
+
 /* query.c: queries of ids with AND, OR and NOT. Whether a set has an id is asked of `has`, with the number of the id in the query. */
 typedef struct idset_query idset_query;
 typedef bool has_id(void *state, uint32 id, bool negated, size_t number);

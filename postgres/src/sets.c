@@ -22,23 +22,34 @@ static two_sets opened_two(FunctionCallInfo fcinfo)
     return both(one, opened_argument(fcinfo, 1));
 }
 
-/* The set that an operation gives. Room for the bytes of both sets, and of a chunk more, is usually enough. It doubles until it is. */
-static Datum combined(const two_sets *it, uint32 operation)
+/* Puts the set that an operation on sets gives at a new value, and returns its number of bytes, or an error of the library. Room for the bytes of
+ * all sets, and of a chunk more, is usually enough. It doubles until it is. */
+ptrdiff_t combine(uint32 operation, const bitpacking_set *sets, size_t count, struct varlena **value)
 {
-    const bitpacking_set *one = &it->sets[0], *other = &it->sets[1];
-    size_t items = bitpacking_set_combine_room(one, other), room = one->bytes_len + other->bytes_len + CHUNK;
+    size_t items = bitpacking_set_combine_room(sets, count), room = CHUNK, i;
     uint32 *work = new_ids(items);
-    struct varlena *value = palloc_extended(VARHDRSZ + room, MCXT_ALLOC_HUGE);
     ptrdiff_t size;
 
-    while ((size = bitpacking_set_combine(operation, one, other, work, items, (uint8_t *)VARDATA(value), room)) == BITPACKING_SHORT) {
+    for (i = 0; i < count; i++)
+        room += sets[i].bytes_len;
+    *value = palloc_extended(VARHDRSZ + room, MCXT_ALLOC_HUGE);
+    while ((size = bitpacking_set_combine(operation, sets, count, work, items, (uint8_t *)VARDATA(*value), room)) == BITPACKING_SHORT) {
         room *= 2;
-        pfree(value);
-        value = palloc_extended(VARHDRSZ + room, MCXT_ALLOC_HUGE);
+        pfree(*value);
+        *value = palloc_extended(VARHDRSZ + room, MCXT_ALLOC_HUGE);
     }
+    pfree(work);
+    return size;
+}
+
+/* The set that an operation on sets gives. */
+Datum combined(uint32 operation, const bitpacking_set *sets, size_t count)
+{
+    struct varlena *value;
+    ptrdiff_t size = combine(operation, sets, count, &value);
+
     if (size < 0)
         refuse(size);
-    pfree(work);
     PG_RETURN_POINTER(ended(value, (size_t)size));
 }
 
@@ -62,10 +73,10 @@ static size_t common(const two_sets *it)
         return result;                                                                                                                 \
     }
 
-OF_TWO(idset_intersect, combined(&it, BITPACKING_AND))
-OF_TWO(idset_unite, combined(&it, BITPACKING_OR))
-OF_TWO(idset_subtract, combined(&it, BITPACKING_AND_NOT))
-OF_TWO(idset_symmetric_difference, combined(&it, BITPACKING_XOR))
+OF_TWO(idset_intersect, combined(BITPACKING_AND, it.sets, 2))
+OF_TWO(idset_unite, combined(BITPACKING_OR, it.sets, 2))
+OF_TWO(idset_subtract, combined(BITPACKING_AND_NOT, it.sets, 2))
+OF_TWO(idset_symmetric_difference, combined(BITPACKING_XOR, it.sets, 2))
 OF_TWO(idset_intersect_len, Int64GetDatum((int64)common(&it)))
 OF_TWO(idset_unite_len, Int64GetDatum((int64)(it.len[0] + it.len[1] - common(&it))))
 OF_TWO(idset_subtract_len, Int64GetDatum((int64)(it.len[0] - common(&it))))
@@ -100,7 +111,7 @@ Datum idset_add(PG_FUNCTION_ARGS)
     uint8_t bytes[BITPACKING_SET_ROOM(1)];
     two_sets it = both(opened_argument(fcinfo, 0), set_of(as_id(PG_GETARG_INT64(1)), bytes));
 
-    return combined(&it, BITPACKING_OR);
+    return combined(BITPACKING_OR, it.sets, 2);
 }
 
 /* The set without a number. No set has a number that is out of range. */
@@ -115,5 +126,5 @@ Datum idset_remove(PG_FUNCTION_ARGS)
     if (number < 0 || number > UINT32_MAX)
         PG_RETURN_DATUM(PG_GETARG_DATUM(0));
     it = both(set, set_of((uint32)number, bytes));
-    return combined(&it, BITPACKING_AND_NOT);
+    return combined(BITPACKING_AND_NOT, it.sets, 2);
 }

@@ -124,14 +124,13 @@ def varint(number):
     return bytes([number % 128 + 128]) + varint(number // 128) if number > 127 else bytes([number])
 
 
-def long_set(first):
-    """The bytes of a set of ids of ten digits, as docs/FORMAT.md has them: the first ids of one chunk, as many as `first` says, and 1,387 whole
-    chunks after it, to the greatest id. Each is a run."""
-    count = 1388
+def long_set(first, chunk=64148, count=1388):
+    """The bytes of a set, as docs/FORMAT.md has them: the first ids of a chunk, as many as `first` says, and whole chunks after it, so that it has
+    `count`. Each is a run. The usual ones end with the greatest id, and have ids of ten digits."""
     bodies = [b"\x01\xff\0\0" + first.to_bytes(2, "little"), *[b"\x01\xff\0\0"] * (count - 1)]
     sums = [first + 65536 * it for it in range(count)]
     ends = [6 + 4 * it for it in range(count)]
-    parts = [(65536 - count + it).to_bytes(2, "little") for it in range(count)]
+    parts = [(chunk + it).to_bytes(2, "little") for it in range(count)]
     parts += [it.to_bytes(2, "little") for it in ends] + [it.to_bytes(4, "little") for it in sums]
     return b"\x05" + varint(sums[-1]) + varint(count) + b"\x42" + b"".join(parts + bodies)
 
@@ -148,6 +147,20 @@ def longest(server):
     for name, sql in {"from bytes": f"{longer}::idset", "by a call": f"{fits}::idset | 1000000000"}.items():
         said, status = server.psql(f"SELECT cardinality({sql})")
         yield f"a longer one is refused {name}", None if status != 0 and wanted in said else said[-500:]
+
+
+def many_ids(server):
+    """Five sets of 65,535,999 ids each have more than a set may have: they are counted, and may cancel out."""
+    sets = ", ".join(f"({it}, '\\x{long_set(65535, 1000 * it, 1000).hex()}'::bytea)" for it in range(5))
+    server.rows(f"CREATE TABLE wide AS SELECT n, bytes::idset AS ids FROM (VALUES {sets}) v(n, bytes)")
+    twice = "(SELECT * FROM wide UNION ALL SELECT * FROM wide WHERE n > 0) q"
+    said = server.rows(
+        f"SELECT unite_len_agg(ids), intersect_len_agg(ids) FROM wide; SELECT symmetric_difference_len_agg(ids) FROM {twice}"
+    )
+    yield "more ids than a set has are counted", other(said, "327679995|0\n65535999")
+    for call in ("unite_agg(ids)", "symmetric_difference_agg(ids)"):
+        said, status = server.psql(f"SELECT min({call}) FROM wide")
+        yield f"{call} of more is refused", None if status != 0 and "here are more than 268435456 values" in said else said[-500:]
 
 
 def owned(server):
@@ -230,6 +243,7 @@ def checks():
             first.rows("CREATE EXTENSION idset")
             yield from vectors(first)
             yield from longest(first)
+            yield from many_ids(first)
             yield from owned(first)
             yield from page(first)
             yield from pg_update.checks(extension, first)
