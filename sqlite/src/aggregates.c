@@ -51,11 +51,11 @@ static bitpacking_set *views_of(const collected *it)
 }
 
 /* Combines the sets into one. Returns its number of bytes, or what failed. */
-static ptrdiff_t combine_all(collected *it, set_call *call)
+static ptrdiff_t combine_all(collected *it, uint32_t operation)
 {
     bitpacking_set *views = views_of(it);
     uint8_t *bytes;
-    ptrdiff_t len = views ? joined(call, views, it->count, &bytes) : NO_MEMORY;
+    ptrdiff_t len = views ? joined(operation, views, it->count, &bytes) : NO_MEMORY;
 
     sqlite3_free(views);
     if (len < 0)
@@ -74,21 +74,21 @@ static ptrdiff_t combine_all(collected *it, set_call *call)
 }
 
 /* Whether enough is collected to be combined: also twice the bytes of the last result, so that a long result is not packed for each row. */
-static int is_much(const collected *it, set_call *call)
+static int is_much(const collected *it, uint32_t operation)
 {
-    size_t many = call == bitpacking_set_unite ? OR_BYTES : AND_BYTES;
+    size_t many = operation == BITPACKING_OR ? OR_BYTES : AND_BYTES;
 
     return it->count == MANY_SETS || (it->count > 1 && it->len > many && it->len > 2 * it->before);
 }
 
 /* Takes the set of a row. */
-static ptrdiff_t with_set(collected *it, set_call *call, const void *bytes, size_t len)
+static ptrdiff_t with_set(collected *it, uint32_t operation, const void *bytes, size_t len)
 {
-    ptrdiff_t done = is_much(it, call) ? combine_all(it, call) : 0;
+    ptrdiff_t done = is_much(it, operation) ? combine_all(it, operation) : 0;
 
     if (done < 0)
         return done;
-    if (call == bitpacking_set_intersect && it->count == 1 && it->len == EMPTY_BYTES)
+    if (operation == BITPACKING_AND && it->count == 1 && it->len == EMPTY_BYTES)
         return 0;
     if (!make_space(it, len))
         return NO_MEMORY;
@@ -112,7 +112,7 @@ void idset_collect(sqlite3_context *context, int count, sqlite3_value **values)
     it->failed = !opened(context, values, 0, &set);
     if (it->failed)
         return;
-    done = with_set(it, call_of(context), sqlite3_value_blob(values[0]), (size_t)sqlite3_value_bytes(values[0]));
+    done = with_set(it, operation_of(context), sqlite3_value_blob(values[0]), (size_t)sqlite3_value_bytes(values[0]));
     it->failed = done < 0;
     if (done < 0)
         refuse_fault(context, done);
@@ -126,7 +126,7 @@ void idset_collected(sqlite3_context *context)
     if (!it)
         return;
     if (!it->failed && it->count > 1)
-        done = combine_all(it, call_of(context));
+        done = combine_all(it, operation_of(context));
     if (done < 0)
         refuse_fault(context, done);
     if (it->failed || it->count == 0 || done < 0)

@@ -60,8 +60,8 @@ void refuse_fault(sqlite3_context *context, ptrdiff_t fault)
         sqlite3_result_error_code(context, SQLITE_TOOBIG);
 }
 
-/* The call of the library that a function runs. */
-set_call *call_of(sqlite3_context *context) { return ((function *)sqlite3_user_data(context))->call; }
+/* The operation on sets that a function runs. */
+uint32_t operation_of(sqlite3_context *context) { return ((function *)sqlite3_user_data(context))->operation; }
 
 /* Whether an argument is null: then a function returns null, and tests no other argument. */
 int has_null(int count, sqlite3_value **values)

@@ -4,35 +4,35 @@ SQLITE_EXTENSION_INIT1
 
 typedef void final(sqlite3_context *context);
 
-/* Each function: its name, how many arguments it takes, any number if -1, what runs it, and the call of the library for that. */
+/* Each function: its name, how many arguments it takes, any number if -1, what runs it, and the operation on sets, or 0. */
 static const struct {
     const char *name;
     int arguments;
     scalar *run;
     final *end;
-    set_call *call;
+    uint32_t operation;
 } FUNCTIONS[] = {
-    {"idset", -1, idset_make, NULL, NULL},
-    {"idset_len", 1, idset_len, NULL, NULL},
-    {"idset_min", 1, idset_min, NULL, NULL},
-    {"idset_max", 1, idset_max, NULL, NULL},
-    {"idset_contains", 2, idset_contains, NULL, NULL},
-    {"idset_rank", 2, idset_rank, NULL, NULL},
-    {"idset_seek", 2, idset_seek, NULL, NULL},
-    {"idset_range", 3, idset_range, NULL, NULL},
-    {"idset_add", 2, idset_add, NULL, NULL},
-    {"idset_remove", 2, idset_remove, NULL, NULL},
-    {"idset_intersect", -1, idset_combine, NULL, bitpacking_set_intersect},
-    {"idset_unite", -1, idset_combine, NULL, bitpacking_set_unite},
-    {"idset_subtract", -1, idset_combine, NULL, bitpacking_set_subtract},
-    {"idset_xor", -1, idset_combine, NULL, xor_call},
-    {"idset_intersect_len", -1, idset_combine_len, NULL, bitpacking_set_intersect},
-    {"idset_unite_len", -1, idset_combine_len, NULL, bitpacking_set_unite},
-    {"idset_subtract_len", -1, idset_combine_len, NULL, bitpacking_set_subtract},
-    {"idset_xor_len", -1, idset_combine_len, NULL, xor_call},
-    {"idset_pack", 1, idset_gather, idset_gathered, NULL},
-    {"idset_unite_agg", 1, idset_collect, idset_collected, bitpacking_set_unite},
-    {"idset_intersect_agg", 1, idset_collect, idset_collected, bitpacking_set_intersect},
+    {"idset", -1, idset_make, NULL, 0},
+    {"idset_len", 1, idset_len, NULL, 0},
+    {"idset_min", 1, idset_min, NULL, 0},
+    {"idset_max", 1, idset_max, NULL, 0},
+    {"idset_contains", 2, idset_contains, NULL, 0},
+    {"idset_rank", 2, idset_rank, NULL, 0},
+    {"idset_seek", 2, idset_seek, NULL, 0},
+    {"idset_range", 3, idset_range, NULL, 0},
+    {"idset_add", 2, idset_add, NULL, 0},
+    {"idset_remove", 2, idset_remove, NULL, 0},
+    {"idset_intersect", -1, idset_combine, NULL, BITPACKING_AND},
+    {"idset_unite", -1, idset_combine, NULL, BITPACKING_OR},
+    {"idset_subtract", -1, idset_combine, NULL, BITPACKING_AND_NOT},
+    {"idset_xor", -1, idset_combine, NULL, BITPACKING_XOR},
+    {"idset_intersect_len", -1, idset_combine_len, NULL, BITPACKING_AND},
+    {"idset_unite_len", -1, idset_combine_len, NULL, BITPACKING_OR},
+    {"idset_subtract_len", -1, idset_combine_len, NULL, BITPACKING_AND_NOT},
+    {"idset_xor_len", -1, idset_combine_len, NULL, BITPACKING_XOR},
+    {"idset_pack", 1, idset_gather, idset_gathered, 0},
+    {"idset_unite_agg", 1, idset_collect, idset_collected, BITPACKING_OR},
+    {"idset_intersect_agg", 1, idset_collect, idset_collected, BITPACKING_AND},
 };
 enum { COUNT = sizeof FUNCTIONS / sizeof *FUNCTIONS };
 
@@ -78,7 +78,7 @@ __attribute__((visibility("default"))) int sqlite3_idset_init(sqlite3 *db, char 
     /* One user more until all functions are there. */
     it->common.users = 1;
     for (i = 0; i < COUNT && status == SQLITE_OK; i++) {
-        it->functions[i] = (function){FUNCTIONS[i].name, &it->common, FUNCTIONS[i].call};
+        it->functions[i] = (function){FUNCTIONS[i].name, &it->common, FUNCTIONS[i].operation};
         it->common.users++;
         status = add_function(db, &it->functions[i], i);
     }

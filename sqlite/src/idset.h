@@ -18,7 +18,6 @@ enum { MOST_IDS = 268435456, MOST_SETS = 1000 };
 #define NO_MEMORY PTRDIFF_MIN
 
 typedef void scalar(sqlite3_context *context, int count, sqlite3_value **values);
-typedef ptrdiff_t set_call(const bitpacking_set *views, size_t views_len, uint32_t *ids, size_t ids_len);
 
 /* A blob that was opened in an earlier call. Its bytes are copied if it comes again. */
 typedef struct {
@@ -38,7 +37,7 @@ typedef struct {
 typedef struct {
     const char *name;
     shared *connection;
-    set_call *call;
+    uint32_t operation;
 } function;
 
 /* arguments.c: what a function was given, and how it fails. Arguments are counted from 0 here, and from 1 in errors. */
@@ -46,7 +45,7 @@ enum { WHY_ROOM = 120 };
 const char *why_of(ptrdiff_t fault, char room[WHY_ROOM]);
 void refuse(sqlite3_context *context, const char *form, ...);
 void refuse_fault(sqlite3_context *context, ptrdiff_t fault);
-set_call *call_of(sqlite3_context *context);
+uint32_t operation_of(sqlite3_context *context);
 int has_null(int count, sqlite3_value **values);
 int opened(sqlite3_context *context, sqlite3_value **values, int number, bitpacking_set *set);
 int integer_of(sqlite3_context *context, sqlite3_value **values, int number, sqlite3_int64 *integer);
@@ -66,8 +65,7 @@ uint8_t *shortened(uint8_t *bytes, size_t len);
 void result_ids(sqlite3_context *context, const uint32_t *ids, size_t len);
 
 /* combining.c: sets of many sets. */
-set_call xor_call;
-ptrdiff_t joined(set_call *call, const bitpacking_set *views, size_t views_len, uint8_t **bytes);
+ptrdiff_t joined(uint32_t operation, const bitpacking_set *views, size_t views_len, uint8_t **bytes);
 
 /* The functions of SQL. The aggregates have two each. */
 scalar idset_make, idset_len, idset_min, idset_max, idset_contains, idset_rank, idset_seek, idset_range, idset_add, idset_remove;

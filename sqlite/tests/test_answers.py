@@ -1,5 +1,6 @@
 """Random sets beside Python's."""
 
+import itertools
 import json
 import random
 
@@ -118,13 +119,19 @@ def test_long_sets(db):
     """Sets in chunks of each form. A set without gaps has few bytes, and with many gaps more than both that it is made of."""
     forms = [range(0, 100_000, 5), range(60_000, 100_000), [400 * at + it for at in range(200) for it in range(100)], [7, 90_000]]
     forms.append([40 * at + at * at % 31 for at in range(5_000)])
-    for one in forms:
-        for other in forms:
-            a, b = {*one}, {*other}
-            right = {"intersect": a & b, "unite": a | b, "subtract": a - b, "xor": a ^ b}
+    for i, j in itertools.product(range(len(forms)), repeat=2):
+        for its in ([forms[i], forms[j]], [forms[i], forms[j], forms[(i + j) % len(forms)]]):
+            sets, marks = [{*it} for it in its], ", ".join("?" * len(its))
+            odd = {id for id in set().union(*sets) if sum(id in it for it in sets) % 2}
+            right = {
+                "intersect": set.intersection(*sets),
+                "unite": set().union(*sets),
+                "subtract": sets[0].difference(*sets[1:]),
+                "xor": odd,
+            }
             for name, ids in right.items():
-                found = value(db, f"SELECT idset_{name}(?, ?)", packed(db, one), packed(db, other))
-                assert found == packed(db, sorted(ids)), (name, one[:3], other[:3])
+                found = value(db, f"SELECT idset_{name}({marks})", *(packed(db, it) for it in its))
+                assert found == packed(db, sorted(ids)), (name, [it[:3] for it in its])
     full, some = packed(db, range(400_000)), packed(db, [40 * at + at * at % 31 for at in range(10_000)])
     assert len(value(db, "SELECT idset_subtract(?, ?)", full, some)) > len(full) + len(some) + 8500
 

@@ -44,7 +44,14 @@ def test_the_most_ids(db):
     assert unpacked(db, value(db, "SELECT idset_range(?, 9, 11)", data)) == [9, 10, 11]
     assert db.execute("SELECT id FROM idset_each(?) WHERE id > 268435453", (data,)).fetchall() == [(MOST - 2,), (MOST - 1,)]
     assert value(db, "SELECT idset_unite_len(?, ?)", data, whole_chunks(4096, 4096)) == 2 * MOST
-    for sql in ["SELECT idset_unite(?1, ?2)", "SELECT idset_unite_agg(it) FROM (SELECT ?1 AS it UNION ALL SELECT ?2)"]:
+    assert value(db, "SELECT idset_xor(?1, ?2, ?2)", data, whole_chunks(4096, 4096)) == data
+    refused = [
+        "unite(?1, ?2)",
+        "xor(?1, ?2, idset())",
+        "xor_len(?1, ?2, idset())",
+        "unite_agg(it) FROM (SELECT ?1 AS it UNION ALL SELECT ?2)",
+    ]
+    for sql in (f"SELECT idset_{it}" for it in refused):
         words, name = refusal(db, sql, data, whole_chunks(4096, 4096))
         assert words.endswith(": there are more than 268435456 values") and name == "SQLITE_TOOBIG"
     words, name = refusal(db, "SELECT idset_add(?, ?)", data, above)
