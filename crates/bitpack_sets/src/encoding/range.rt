@@ -1,4 +1,4 @@
-//! Writes the set of all ids of a range, from where it begins and ends.
+//! Writes the set of all ids of a range. It lists none of them.
 //! FORMAT.md, "Id sets" and "Chunks".
 //!
 //! A chunk that has at least 16 of these ids is one run: its body has one boundary or two.
