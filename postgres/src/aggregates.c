@@ -5,14 +5,14 @@
 #include "miscadmin.h"
 #include "utils/memutils.h"
 
-/* How much there is room for first. Sets are combined when so many wait, or so many bytes: fewer for an AND, whose set is short. The parts of
- * numbers that are packed. */
+/* The room for numbers and for sets at first. MANY_SETS that wait are combined, on LEVELS levels, and so are sets of more than MANY_BYTES: AND_BYTES
+ * for an AND, whose set is short. Numbers are packed in sets of PART at most. */
 enum { FIRST_NUMBERS = 64, FIRST_SETS = 4, MANY_SETS = 256, LEVELS = 4, PART = 1 << 28 };
 enum { MANY_BYTES = 1 << 18, AND_BYTES = 1 << 14 };
 
 /* What was collected of the rows: numbers in any order, and sets over copies of their bytes. The answer is what the operation gives of them. An OR
- * and a XOR have no other order, so that sets are combined level by level: each set at a level comes from MANY_SETS of the level below. All sets
- * have so many bytes, and had so many after all were combined. */
+ * and a XOR have no other order, so that sets are combined level by level: each set at a level comes from MANY_SETS of the level below. The
+ * sets have `bytes` bytes in all, and had `before` when all were last combined. */
 typedef struct {
     uint32 operation, *numbers;
     size_t len, room;
