@@ -18,7 +18,7 @@ ghost use Rattle.bitpack_slices.specs.Slices.{AreSlices, slice_len, slices_len};
 
 use crate::bitmap::single_bits::{counts_before, rank_of_bit, test_bit};
 use crate::chunk::parts::Parts;
-use crate::slice::Slice;
+use crate::slice::{Slice, size_of};
 use bitpacking_register::Register;
 use std::simd::prelude::*;
 
@@ -143,12 +143,4 @@ fn sizes_of(counts: &[u8]) -> [u8; 256]
         sizes[index] = size_of(counts[index]);
     }
     sizes
-}
-
-/// How many bytes a slice has, by its count less 1.
-#[inline(always)]
-fn size_of(less: u8) -> u8
-    ensures { result ≡ slice_len (less + 1) }
-{
-    if less == 255 { 0 } else { less.min(31) + 1 }
 }

@@ -35,8 +35,7 @@ pub enum Body<'a> {
     Runs(Runs<'a>),
 }
 
-/// Writes the ids that an operation on two bodies gives, if there is room for all. Returns the index after the last, or one past the slice
-/// if there is no room.
+/// Writes the ids that an operation on two bodies gives, if there is room for all. Returns the index after the last, also if there is no room.
 pub fn combine(
     operation: Operation,
     key: u32,
@@ -190,8 +189,8 @@ fn combine_slices(
     at + count_combined(operation, &a, &b)
 }
 
-/// Writes the ids of a list whose low 16 bits a body of blocks has, or lacks, if there is room for all. Returns the index after the last, or one
-/// past the slice if there is no room.
+/// Writes the ids of a list whose low 16 bits a body of blocks has, or lacks, if there is room for all. Returns the index after the last, also if
+/// there is no room.
 fn look_up(list: &Listed, body: &[u8], there: bool, out: &mut [u32], at: usize) -> usize
     requires start { at ≤ 2 ^ 32 }
     requires body { IsBlocks (length (block_numbers body.now)) body.now }
@@ -201,8 +200,8 @@ fn look_up(list: &Listed, body: &[u8], there: bool, out: &mut [u32], at: usize) 
     filter(list, &Blocks::new(body, &mut starts), there, out, at)
 }
 
-/// Writes the ids that an operation on a body of blocks and a list gives, if there is room for all. Returns the index after the last, or one
-/// past the slice if there is no room.
+/// Writes the ids that an operation on a body of blocks and a list gives, if there is room for all. Returns the index after the last, also if there
+/// is no room.
 #[inline(never)]
 fn mix_list(
     operation: Operation,

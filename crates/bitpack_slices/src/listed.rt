@@ -103,7 +103,7 @@ impl<'a> Listed<'a> {
     }
 }
 
-/// Writes an id if it is in the answer. Returns the index of the next one, or one past the slice if there was no room.
+/// Writes an id if it is in the answer. Returns the index of the next one, also if there was no room.
 ///
 /// No branch depends on the ids: it writes also an id that is not in the answer, and the next one over it.
 #[inline(always)]

@@ -17,13 +17,15 @@ pub(crate) mod selecting;
 pub(crate) mod testing;
 pub mod writing;
 
-ghost use Rattle.std.specs.Prelude.{◌≡◌};
+ghost use Rattle.std.specs.Prelude.{◌≡◌, ◌+◌};
 ghost use Rattle.std.proofs.Props.{props};
 ghost use Rattle.bitpack_slices.specs.Props.{rising_prop};
 ghost use Rattle.bitpack_slices.specs.Slices.{HasSlice, slice_len};
 
 use crate::bitmap::single_bits::slice_bits;
+use crate::slice::matches::{bytes_from, matches_of_bytes};
 use crate::slice::reading::unpack_from;
+use crate::slice::search::in_slice;
 
 /// How many bytes the slice of `count` numbers has.
 #[inline(always)]
@@ -37,6 +39,14 @@ pub fn byte_len(count: usize) -> usize
     } else {
         0
     }
+}
+
+/// How many bytes a slice has, by its count less 1.
+#[inline(always)]
+pub(crate) fn size_of(less: u8) -> u8
+    ensures { result ≡ slice_len (less + 1) }
+{
+    if less == 255 { 0 } else { less.min(31) + 1 }
 }
 
 /// One of several slices.
@@ -57,10 +67,22 @@ impl<'a> Slice<'a> {
 
     /// The bytes of the slice.
     #[inline(always)]
-    fn bytes(self) -> &'a [u8]
+    pub(crate) fn bytes(self) -> &'a [u8]
         ensures { result.now ≡ bytes_of self.entry }
     {
         &self.slices[self.start..self.start + byte_len(self.count)]
+    }
+
+    /// Whether the slice has this number.
+    #[inline(always)]
+    pub(crate) fn contains(self, number: u8) -> bool
+        ensures { result ≡ has number (numbers_at self.entry) }
+    {
+        if self.count < 32 {
+            let bytes = bytes_from(self.slices, self.start);
+            return matches_of_bytes(bytes, self.count, &[number]) != 0;
+        }
+        in_slice(self.count, self.bytes(), number)
     }
 
     /// The numbers of the slice, as bits.
@@ -79,6 +101,6 @@ impl<'a> Slice<'a> {
         ensures end { result ≡ at + self.entry.count }
         ensures values { take result out.new ≡ take at out.old ++ map (λ i. base + i) (numbers_at self.entry) }
     {
-        unpack_from(self.count, self.slices, self.start, base, out, at)
+        unpack_from(false, self.count, self.slices, self.start, base, out, at)
     }
 }

@@ -16,7 +16,7 @@ use crate::operation::Operation;
 use crate::slice::Slice;
 
 /// Writes the numbers that an operation on blocks and on a bitmap of these high bytes gives, each with `base` added, if there is room for all.
-/// Returns the index after the last, or one past the slice if there is no room.
+/// Returns the index after the last, also if there is no room.
 pub(crate) fn mix(
     operation: Operation,
     blocks: &Blocks,
@@ -78,8 +78,8 @@ fn mix_each(
     next
 }
 
-/// Writes the numbers that an operation gives on a slice and on the bits of its high byte, each with `base` added, if there is room for all.
-/// Returns the index after the last, or one past the slice if there is no room.
+/// Writes the numbers that an operation gives on a slice and on the bits of its high byte, each with `base` added, if there is room for all. Returns
+/// the index after the last, also if there is no room.
 #[inline(always)]
 fn put_mixed(
     operation: Operation,

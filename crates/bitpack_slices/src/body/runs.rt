@@ -18,8 +18,8 @@ use bitpack_groups::write_at;
 /// The most boundaries of two bodies of runs together.
 pub(crate) const MOST_BOTH: usize = 128;
 
-/// Writes the ids that an operation on two bodies of runs gives, if there is room for all. Returns the index after the last, or one past the slice
-/// if there is no room.
+/// Writes the ids that an operation on two bodies of runs gives, if there is room for all. Returns the index after the last, also if there is no
+/// room.
 pub(crate) fn combine_both(
     operation: Operation,
     key: u32,

@@ -9,6 +9,10 @@ use crate::chunk::search::{number_at, offset_of_slice, slice_of};
 use crate::slice::byte_len;
 use crate::slice::reading::{unpack_from, unpack_slice, unpack_slice_from};
 
+/// With at most this many bytes a slice on average, most slices have at most eight numbers. On a Xeon of model 85, a call takes 1.3 times as long
+/// with 0 for 2.6 numbers of each slice.
+const FEW: usize = 6;
+
 /// Writes the numbers of a body of blocks, each with `base` added. Returns the index after the last. `rest` begins with the body, and may go on: its
 /// bytes after the body are read, and have no effect.
 pub fn unpack_blocks(body: &[u8], rest: &[u8], base: u32, out: &mut [u32], at: usize) -> usize
@@ -21,12 +25,17 @@ pub fn unpack_blocks(body: &[u8], rest: &[u8], base: u32, out: &mut [u32], at: u
 {
     let parts = Parts::new(body);
     let slices = &rest[body.len() - parts.slices.len()..];
-    unpack_parts(parts.highs, parts.counts, slices, base, out, at)
+    if parts.slices.len() <= FEW * parts.counts.len() {
+        return unpack_parts(true, parts.highs, parts.counts, slices, base, out, at);
+    }
+    unpack_parts(false, parts.highs, parts.counts, slices, base, out, at)
 }
 
 /// Writes the numbers of slices end to end, each with `base` added: their high bytes, of each the count less 1, and bytes that begin with the
-/// slices. Returns the index after the last.
+/// slices. Returns the index after the last. `few` says that most slices have at most eight numbers: the compiler makes code of its own for each.
+#[inline(always)]
 fn unpack_parts(
+    few: bool,
     highs: &[u8],
     counts: &[u8],
     rest: &[u8],
@@ -52,7 +61,7 @@ fn unpack_parts(
     for i in 0..counts.len() {
         let count = counts[i] as usize + 1;
         let first = base + 256 * firsts[i];
-        next = unpack_from(count, rest, offset, first, out, next);
+        next = unpack_from(few, count, rest, offset, first, out, next);
         offset += byte_len(count);
     }
     next

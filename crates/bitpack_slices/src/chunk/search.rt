@@ -4,12 +4,13 @@
 ghost use Rattle.std.specs.Prelude.{◌≡◌, ◌+◌, ◌*◌, ◌/◌, ◌^◌, ◌<◌, ◌≤◌, ◌++◌, drop, length, map, slice_index, take};
 ghost use Rattle.bitpack_slices.specs.Reads.{has, rank};
 ghost use Rattle.bitpack_slices.specs.Bodies.{IsRising};
-ghost use Rattle.bitpack_slices.specs.Slices.{numbers_in, pairs_of, slices_len};
+ghost use Rattle.bitpack_slices.specs.Selections.{numbers_at};
+ghost use Rattle.bitpack_slices.specs.Slices.{numbers_in, pairs_of, slice_len, slice_numbers, slices_len};
 
 use crate::chunk::parts::Parts;
-use crate::slice::byte_len;
 use crate::slice::search::{in_slice, rank_in_slice, select_in_slice};
 use crate::slice::testing::count_numbers;
+use crate::slice::{Slice, size_of};
 
 impl<'a> Parts<'a> {
     ghost use Rattle.bitpack_slices.specs.Parts.{numbers_in_parts};
@@ -24,14 +25,7 @@ impl<'a> Parts<'a> {
             return false;
         }
         let index = rank_in_slice(self.counts.len(), self.highs, high);
-        let offset = offset_of_slice(self.counts, index);
-        let count = self.counts[index] as usize + 1;
-        let size = byte_len(count);
-        in_slice(
-            count,
-            &self.slices[offset..offset + size],
-            (number % 256) as u8,
-        )
+        self.slice_at(index).contains((number % 256) as u8)
     }
 
     /// How many numbers are below `number`.
@@ -45,15 +39,8 @@ impl<'a> Parts<'a> {
         if !in_slice(self.counts.len(), self.highs, high) {
             return before;
         }
-        let offset = offset_of_slice(self.counts, index);
-        let count = self.counts[index] as usize + 1;
-        let size = byte_len(count);
-        before
-            + rank_in_slice(
-                count,
-                &self.slices[offset..offset + size],
-                (number % 256) as u8,
-            )
+        let slice = self.slice_at(index);
+        before + rank_in_slice(slice.count, slice.bytes(), (number % 256) as u8)
     }
 
     /// The number at this position.
@@ -63,11 +50,36 @@ impl<'a> Parts<'a> {
         ensures { result ≡ slice_index (numbers_in_parts self.entry) position }
     {
         let (index, left) = slice_of(self.counts, position);
-        let offset = offset_of_slice(self.counts, index);
-        let count = self.counts[index] as usize + 1;
-        let size = byte_len(count);
+        let slice = self.slice_at(index);
         let high = select_in_slice(self.counts.len(), self.highs, index) as u16;
-        256 * high + select_in_slice(count, &self.slices[offset..offset + size], left) as u16
+        256 * high + select_in_slice(slice.count, slice.bytes(), left) as u16
+    }
+
+    /// The slice with this index.
+    #[inline(always)]
+    fn slice_at(self, index: usize) -> Slice<'a>
+        requires { index < length self.counts.now }
+        ensures count { result.count ≡ slice_index self.entry.counts.now index + 1 }
+        ensures numbers { numbers_at result ≡ slice_numbers (slice_index self.entry.counts.now index + 1)
+            (take (slice_len (slice_index self.entry.counts.now index + 1)) (drop (slices_len (take index self.entry.counts.now)) self.entry.slices.now)) }
+    {
+        Slice {
+            slices: self.slices,
+            start: self.offset_of(index),
+            count: self.counts[index] as usize + 1,
+        }
+    }
+
+    /// Where the slice with this index begins. If each slice is bits, no count is read.
+    #[inline(always)]
+    fn offset_of(self, index: usize) -> usize
+        requires { index < length self.counts.now }
+        ensures { result ≡ slices_len (take index self.entry.counts.now) }
+    {
+        if self.slices.len() == 32 * self.counts.len() {
+            return 32 * index;
+        }
+        offset_of_slice(self.counts, index)
     }
 }
 
@@ -93,11 +105,11 @@ pub(crate) fn offset_of_slice(counts: &[u8], index: usize) -> usize
     requires few { length counts.now ≤ 256 }
     ensures { result ≡ slices_len (take index counts.now) }
 {
-    let mut offset = 0;
+    let mut offset: u16 = 0;
     for i in 0..index {
-        offset += byte_len(counts[i] as usize + 1);
+        offset += size_of(counts[i]) as u16;
     }
-    offset
+    offset as usize
 }
 
 /// The number at this position of a body of numbers.

@@ -9,12 +9,8 @@ ghost use Rattle.bitpack_slices.specs.Selections.{parts_numbers};
 
 use crate::blocks::Blocks;
 use crate::listed::{Listed, put};
-use crate::slice::byte_len;
-use crate::slice::matches::{bytes_from, matches_of_bytes};
-use crate::slice::search::in_slice;
 
-/// Writes the ids whose low 16 bits blocks have, or lack, if there is room for all. Returns the index after the last, or one past the slice
-/// if there is no room.
+/// Writes the ids whose low 16 bits blocks have, or lack, if there is room for all. Returns the index after the last, also if there is no room.
 pub(crate) fn filter(
     list: &Listed,
     blocks: &Blocks,
@@ -40,12 +36,5 @@ pub fn is_member(blocks: &Blocks, number: usize) -> bool
     requires { number < 65536 }
     ensures { result ≡ has number (parts_numbers blocks.now) }
 {
-    let slice = blocks.slice(number / 256);
-    let low = (number % 256) as u8;
-    if slice.count < 32 {
-        let bytes = bytes_from(slice.slices, slice.start);
-        return matches_of_bytes(bytes, slice.count, &[low]) != 0;
-    }
-    let end = slice.start + byte_len(slice.count);
-    in_slice(slice.count, &slice.slices[slice.start..end], low)
+    blocks.slice(number / 256).contains((number % 256) as u8)
 }

@@ -9,8 +9,7 @@ use crate::combined::{retains_left, retains_right};
 use crate::listed::{Listed, put};
 use crate::operation::Operation;
 
-/// Writes the ids that an operation on two lists gives, if there is room for all. Returns the index after the last, or one past the slice
-/// if there is no room.
+/// Writes the ids that an operation on two lists gives, if there is room for all. Returns the index after the last, also if there is no room.
 pub fn merge(operation: Operation, a: &Listed, b: &Listed, out: &mut [u32], at: usize) -> usize
     requires { at ≤ 2 ^ 32 }
     ensures { Follow (answer operation (listed_ids a.now) (listed_ids b.now)) out.old out.new at result }

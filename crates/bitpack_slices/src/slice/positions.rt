@@ -93,6 +93,17 @@ pub(crate) fn unpack_32(bytes: &[u8], base: u32, out: &mut [u32], at: usize)
     }
 }
 
+/// Writes eight bytes, each with `base` added.
+#[inline(always)]
+pub(crate) fn unpack_8(bytes: &[u8], base: u32, out: &mut [u32], at: usize)
+    requires size { length bytes.now ≡ 8 }
+    requires fits { base + 256 ≤ 2 ^ 32 }
+    requires room { at + 8 ≤ length out.old }
+    ensures { take (at + 8) out.new ≡ take at out.old ++ map (λ i. base + i) bytes.now }
+{
+    put_eight(u8x8::from_slice(bytes), u32x8::splat(base), out, at);
+}
+
 /// Writes eight bytes, in order. Each lane of `base` is added to one.
 #[inline(always)]
 fn put_eight(bytes: u8x8, base: u32x8, out: &mut [u32], at: usize)
@@ -122,6 +133,9 @@ pub(crate) fn unpack_chosen(
     ensures end { result ≡ at + length (matched matches bytes.now) }
     ensures values { take result out.new ≡ take at out.old ++ map (λ i. base + i) (matched matches bytes.now) }
 {
+    if matches == 0 {
+        return at;
+    }
     let mut next = at;
     for i in 0..4 {
         let some = (matches >> (8 * i) & 255) as u8;

@@ -9,13 +9,15 @@ ghost use Rattle.bitpack_slices.specs.Slices.{IsSlice, number_of, ones_from, sli
 
 use crate::bitmap::unpacking::unpack_many;
 use crate::slice::byte_len;
-use crate::slice::positions::unpack_32;
+use crate::slice::positions::{unpack_8, unpack_32};
 
 /// Writes the numbers of the slice of `count` that begins at `start`, each with `base` added. Returns the index after the last.
 ///
-/// It reads a short slice as 32 bytes if there are that many, without a branch, so up to 31 items after the end may change too.
+/// It reads a short slice as 32 bytes if there are that many, without a branch, so up to 31 items after the end may change too. `few` says that most
+/// slices have at most eight numbers: then it reads these as eight bytes.
 #[inline(always)]
 pub(crate) fn unpack_from(
+    few: bool,
     count: usize,
     slices: &[u8],
     start: usize,
@@ -32,6 +34,10 @@ pub(crate) fn unpack_from(
     ensures values { take result out.new
         ≡ take at out.old ++ map (λ i. base + i) (slice_numbers count (take (slice_len count) (drop start slices.now))) }
 {
+    if few && count <= 8 && slices.len() - start >= 8 && out.len() - at >= 8 {
+        unpack_8(&slices[start..start + 8], base, out, at);
+        return at + count;
+    }
     if count < 32 && slices.len() - start >= 32 && out.len() - at >= 32 {
         unpack_32(&slices[start..start + 32], base, out, at);
         return at + count;

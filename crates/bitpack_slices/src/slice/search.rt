@@ -5,8 +5,8 @@ ghost use Rattle.std.specs.Prelude.{◌≡◌, ◌+◌, ◌*◌, ◌/◌, ◌^�
 ghost use Rattle.bitpack_slices.specs.Reads.{has, rank};
 ghost use Rattle.bitpack_slices.specs.Slices.{IsSlice, number_of, ones_from, slice_len, slice_numbers};
 
-use crate::slice::reading::word_at;
-use crate::slice::testing::count_bits;
+use crate::bitmap::single_bits::{counts_before, rank_of_bit};
+use crate::slice::reading::{word_at, words_of};
 
 /// Whether a slice of `count` numbers has this one.
 #[inline(always)]
@@ -76,9 +76,8 @@ fn rank_in_bits(bytes: &[u8], number: u8) -> usize
     requires { length bytes.now ≡ 32 }
     ensures { result ≡ rank number (ones_from (number_of bytes.now) 0 256) }
 {
-    let whole = (number / 8) as usize;
-    let rest = bytes[whole] & ((1 << (number % 8)) - 1);
-    count_bits(&bytes[..whole]) + rest.count_ones() as usize
+    let words = words_of(bytes);
+    rank_of_bit(&words, &counts_before(&words), number as usize)
 }
 
 /// The number at this position of a slice of `count`.

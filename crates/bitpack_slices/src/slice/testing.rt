@@ -91,11 +91,11 @@ pub(crate) fn count_numbers(counts: &[u8]) -> usize
     requires { length counts.now ≤ 256 }
     ensures { result ≡ numbers_in counts.now }
 {
-    let mut count = 0;
+    let mut count: u32 = 0;
     for less in counts {
-        count += *less as usize + 1;
+        count += *less as u32 + 1;
     }
-    count
+    count as usize
 }
 
 /// Whether bytes increase.
@@ -108,16 +108,4 @@ fn is_increasing(bytes: &[u8]) -> bool
         }
     }
     true
-}
-
-/// How many bits of at most 32 bytes are 1.
-pub(crate) fn count_bits(bytes: &[u8]) -> usize
-    requires { length bytes.now ≤ 32 }
-    ensures { result ≡ bits_in bytes.now }
-{
-    let mut count = 0;
-    for byte in bytes {
-        count += byte.count_ones() as usize;
-    }
-    count
 }

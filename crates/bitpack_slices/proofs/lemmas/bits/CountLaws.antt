@@ -140,16 +140,9 @@ pub full_slice : (bytes : List ℕ) → length bytes ≡ 0 → IsSlice 256 bytes
 full_slice [] h = record { rising = full_rise; count_is = refl; encoding = slice_many (range_with_len 0 256) (lit≤ tt) }
 full_slice (x ∷ xs) h = absurd (omega arith)
 
-pub bits_drop : (xs : List ℕ) (i : ℕ) → i < length xs → bits_in (drop i xs) ≡ count_ones (get_or xs i 0) + bits_in (drop (i + 1) xs)
-unfolding bits_in
-bits_drop xs i h = ap bits_in (drop_more xs i 0 h)
-
 pub bits_done : (xs : List ℕ) (i : ℕ) → length xs ≤ i → bits_in (drop i xs) ≡ 0
 unfolding bits_in
 bits_done xs i h = ap bits_in (drop_all i xs h)
-
-pub bits_few : (byte : ℕ) → byte < 256 → count_ones byte ≤ 8
-bits_few byte h = ones-le 8 byte h
 
 pub decide_few : (count : ℕ) (bytes : List ℕ) (r : Bool) → count < 32 → length bytes ≡ slice_len count → ((k : ℕ) → get_or bytes k 0 < 256)
     → Decides r (IsStrictlyIncreasing bytes) → Decides r (IsSlice count bytes)

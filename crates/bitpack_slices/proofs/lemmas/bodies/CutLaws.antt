@@ -1,5 +1,5 @@
 -- Where the parts of a body of blocks begin and end.
-use Rattle.std.proofs.Common.{◌≡◌, ℕ, ◌+◌, ◌-◌, ◌<◌, ◌≤◌, List, [], ◌∷◌, ◌++◌, take, drop, length, refl, ap, ◌∙◌, arith, cond, ltb, inl, inr, get_or, length-drop, sym}
+use Rattle.std.proofs.Common.{◌≡◌, ℕ, ◌+◌, ◌-◌, ◌*◌, ◌<◌, ◌≤◌, List, [], ◌∷◌, ◌++◌, take, drop, length, refl, ap, ◌∙◌, arith, cond, ltb, inl, inr, get_or, length-drop, sym, take-append-drop}
 use Rattle.std.proofs.lemmas.Bool.{cases_lt, cond_above, cond_below}
 use Rattle.std.proofs.lemmas.List.{take_more, take_rest, length-take-le, drop-take, take-take}
 use Rattle.bitpack_slices.specs.declared.chunk.parts.Parts.{Parts}
@@ -31,6 +31,20 @@ lens_more counts i h =
     let a = ap slices_len (take_more counts i 0 h) in
     let b = lens_append (take i counts) (get_or counts i 0 ∷ []) in
     omega arith
+
+lens_most : (counts : List ℕ) → slices_len counts ≤ 32 * length counts
+unfolding slices_len
+lens_most [] = omega arith
+lens_most (less ∷ counts) = let own = len_few (less + 1) in let ih = lens_most counts in omega arith
+
+-- slices that have the most bytes in all have the most bytes each
+pub all_whole : (counts : List ℕ) (i : ℕ) → i ≤ length counts → slices_len counts ≡ 32 * length counts → slices_len (take i counts) ≡ 32 * i
+all_whole counts i few all =
+    let both = ap slices_len (take-append-drop i counts) in
+    let parts = lens_append (take i counts) (drop i counts) in
+    let before = lens_most (take i counts) in
+    let after = lens_most (drop i counts) in
+    omega (arith, length-take-le i counts few, length-drop i counts)
 
 -- a slice as it is cut
 pub slice_cut : (count offset size from : ℕ) (bytes : List ℕ) → offset ≡ from → size ≡ slice_len count → take (offset + size - offset) (drop offset bytes) ≡ take (slice_len count) (drop from bytes)

@@ -1,22 +1,17 @@
 -- What is looked up in slices and bodies.
-use Rattle.std.proofs.Common.{◌≡◌, ◌≢◌, ℕ, zero, suc, ◌+◌, ◌*◌, ◌/◌, ◌%◌, ◌^◌, ◌-◌, ◌<◌, ◌≤◌, Bool, true, false, ◌||◌, ◌&&◌, eqb, ltb, List, [], ◌∷◌, ◌++◌, map, take, drop, length, refl, sym, ap, ◌∙◌, arith, cond, inl, inr, get_or, bit_and, eq-eqb, length-drop}
+use Rattle.std.proofs.Common.{◌≡◌, ◌≢◌, ℕ, zero, suc, ◌+◌, ◌*◌, ◌/◌, ◌%◌, ◌^◌, ◌-◌, ◌<◌, ◌≤◌, Bool, true, false, ◌||◌, ◌&&◌, eqb, ltb, List, [], ◌∷◌, ◌++◌, map, take, drop, length, refl, sym, ap, ◌∙◌, arith, cond, inl, inr, get_or, eq-eqb, length-drop}
 use Rattle.std.proofs.Math.Bool.{and-false, and-true, or-false}
 use mir.Val.{bool_byte}
 use Rattle.std.specs.Int.{bit_at}
-use Rattle.std.specs.Int.RustNames.{count_ones}
 use Rattle.std.specs.List.{filter, range_with_len}
 use Rattle.std.proofs.lemmas.Bool.{cases_lt, cond_above, false≢true, le-ltb, lt-ltb, ne_eqb, or_parts, true≢false}
 use Rattle.std.proofs.lemmas.List.{drop-drop, drop_all, drop_more}
-use Rattle.std.proofs.lemmas.Nat.{and_mask, mod-pow-add, ones_cat}
 use Rattle.std.proofs.lemmas.Nat.Bits.{bit_at_cat_low, bit_at_cat_high}
-use Rattle.bitpack_slices.proofs.lemmas.bits.OnesLaws.{ones_few}
-use Rattle.bitpack_slices.proofs.lemmas.bits.WriteLaws.{shift_is}
-use Rattle.bitpack_slices.proofs.lemmas.bits.CountLaws.{ones_length}
 use Rattle.bitpack_slices.proofs.lemmas.slices.SliceLaws.{rising_room}
 use Rattle.bitpack_slices.proofs.lemmas.bytes.Bytes.{EachByte}
 use Rattle.bitpack_slices.specs.Reads.{has, rank}
 use Rattle.bitpack_slices.specs.Bodies.{IsRising}
-use Rattle.bitpack_slices.specs.Slices.{AreSlices, bits_in, number_of, numbers_of, ones_from, slice_len, slice_numbers, slices_len}
+use Rattle.bitpack_slices.specs.Slices.{AreSlices, number_of, numbers_of, ones_from, slice_len, slice_numbers, slices_len}
 
 pub bit_le : (b : Bool) → cond b 1 0 ≤ 1
 bit_le true = omega arith
@@ -111,17 +106,6 @@ cond_same : (b : Bool) → ◌≡◌ {A = ℕ} (cond b 0 0) 0
 cond_same true = refl
 cond_same false = refl
 
-low_only : (byte n r : ℕ) → r < 8 → (byte + 256 * n) % 2 ^ r ≡ byte % 2 ^ r
-low_only byte n zero h = omega arith
-low_only byte n (suc zero) h = omega arith
-low_only byte n (suc (suc zero)) h = omega arith
-low_only byte n (suc (suc (suc zero))) h = omega arith
-low_only byte n (suc (suc (suc (suc zero)))) h = omega arith
-low_only byte n (suc (suc (suc (suc (suc zero))))) h = omega arith
-low_only byte n (suc (suc (suc (suc (suc (suc zero)))))) h = omega arith
-low_only byte n (suc (suc (suc (suc (suc (suc (suc zero))))))) h = omega arith
-low_only byte n (suc (suc (suc (suc (suc (suc (suc (suc r)))))))) h = absurd (omega arith)
-
 length_step : (b : Bool) (low : ℕ) (xs : List ℕ) → length (cond b (low ∷ xs) xs) ≡ cond b 1 0 + length xs
 length_step true low xs = omega arith
 length_step false low xs = omega arith
@@ -144,63 +128,9 @@ rank_filtered P x low (suc n) (suc m) e h =
     ∙ ap (λ (k : ℕ). cond (P low) 1 0 + k) (rank_filtered P x (low + 1) n m (omega arith) (omega arith))
     ∙ sym (length_step (P low) low (filter P (range_with_len (low + 1) m)))
 
-pub rank_ones : (x n low k : ℕ) → low ≤ x → x ≤ low + k → rank x (ones_from n low k) ≡ length (ones_from n low (x - low))
-unfolding ones_from
-rank_ones x n low k h l = rank_filtered (λ i. eqb (bit_at n i) 1) x low k (x - low) (omega arith) (omega arith)
-
-pub count_low : (bytes : List ℕ) (q r : ℕ) → EachByte bytes → q < length bytes → r < 8
-    → count_ones (number_of bytes % 2 ^ (8 * q + r)) ≡ bits_in (take q bytes) + count_ones (get_or bytes q 0 % 2 ^ r)
-unfolding number_of bits_in
-count_low [] q r h l s = absurd (omega arith)
-count_low (byte ∷ bytes) zero r (a, b) l s =
-    let plain : 8 * zero + r ≡ r = omega arith in
-    let e = ap (λ (m : ℕ). count_ones ((byte + 256 * number_of bytes) % 2 ^ m)) plain ∙ ap count_ones (low_only byte (number_of bytes) r s) in
-    omega arith
-count_low (byte ∷ bytes) (suc q) r (a, b) l s =
-    let turned : byte + 256 * number_of bytes ≡ number_of bytes * 2 ^ 8 + byte = omega arith in
-    let power : 8 * suc q + r ≡ (8 * q + r) + 8 = omega arith in
-    let high : (number_of bytes * 2 ^ 8 + byte) / 2 ^ 8 ≡ number_of bytes = omega arith in
-    let low : (number_of bytes * 2 ^ 8 + byte) % 2 ^ 8 ≡ byte = omega arith in
-    let cut = mod-pow-add (number_of bytes * 2 ^ 8 + byte) (8 * q + r) 8 in
-    let cut' : (number_of bytes * 2 ^ 8 + byte) % 2 ^ ((8 * q + r) + 8) ≡ (number_of bytes % 2 ^ (8 * q + r)) * 2 ^ 8 + byte =
-    cut ∙ ap (λ (m : ℕ). (m % 2 ^ (8 * q + r)) * 2 ^ 8 + (number_of bytes * 2 ^ 8 + byte) % 2 ^ 8) high ∙ ap (λ (m : ℕ). (number_of bytes % 2 ^ (8 * q + r)) * 2 ^ 8 + m) low in
-    let whole : (byte + 256 * number_of bytes) % 2 ^ (8 * suc q + r) ≡ (number_of bytes % 2 ^ (8 * q + r)) * 2 ^ 8 + byte =
-    ap (λ (m : ℕ). m % 2 ^ (8 * suc q + r)) turned ∙ ap (λ (m : ℕ). (number_of bytes * 2 ^ 8 + byte) % 2 ^ m) power ∙ cut' in
-    let cat = ones_cat 8 (number_of bytes % 2 ^ (8 * q + r)) byte a in
-    let ih = count_low bytes q r b (omega arith) s in
-    ap count_ones whole ∙ cat ∙ omega arith
-
-pub rank_bits : (bytes : List ℕ) (x : ℕ) → EachByte bytes → length bytes ≡ 32 → x < 256
-    → rank x (ones_from (number_of bytes) 0 256) ≡ bits_in (take (x / 8) bytes) + count_ones (get_or bytes (x / 8) 0 % 2 ^ (x % 8))
-rank_bits bytes x are size small =
-    let split : x ≡ 8 * (x / 8) + x % 8 = omega arith in
-    let one : number_of bytes / 2 ^ 0 ≡ number_of bytes = omega arith in
-    let less : x - 0 ≡ x = omega arith in
-    rank_ones x (number_of bytes) 0 256 (omega arith) (omega arith) ∙ ap (λ (m : ℕ). length (ones_from (number_of bytes) 0 m)) less ∙ ones_length (number_of bytes) 0 x
-    ∙ ap (λ (m : ℕ). count_ones (m % 2 ^ x)) one ∙ ap (λ (m : ℕ). count_ones (number_of bytes % 2 ^ m)) split
-    ∙ count_low bytes (x / 8) (x % 8) are (omega arith) (omega arith)
-
--- as the code counts them
-pub bits_counted_before : (bytes : List ℕ) (x n : ℕ) → EachByte bytes → length bytes ≡ 32 → x < 256 → n ≡ bits_in (take (x / 8) bytes)
-    → n + count_ones (bit_and (get_or bytes (x / 8) 0) (1 * 2 ^ (x % 8) % 256 - 1)) ≡ rank x (ones_from (number_of bytes) 0 256)
-bits_counted_before bytes x n are size small e =
-    let byte : ℕ = get_or bytes (x / 8) 0 in
-    ap (λ (m : ℕ). n + count_ones (bit_and byte (m - 1))) (shift_is x)
-    ∙ ap (λ (m : ℕ). n + count_ones m) (and_mask byte (x % 8))
-    ∙ ap (λ (m : ℕ). m + count_ones (byte % 2 ^ (x % 8))) e
-    ∙ sym (rank_bits bytes x are size small)
-
 pub rank_le : (x : ℕ) (xs : List ℕ) → rank x xs ≤ length xs
 rank_le x [] = omega arith
 rank_le x (y ∷ xs) = let one = bit_le (ltb y x) in let ih = rank_le x xs in omega arith
-
-pub bits_few_before : (bytes : List ℕ) (x n : ℕ) → EachByte bytes → length bytes ≡ 32 → x < 256 → n ≡ bits_in (take (x / 8) bytes)
-    → n + count_ones (bit_and (get_or bytes (x / 8) 0) (1 * 2 ^ (x % 8) % 256 - 1)) ≤ 256
-bits_few_before bytes x n are size small e =
-    let same = bits_counted_before bytes x n are size small e in
-    let few = rank_le x (ones_from (number_of bytes) 0 256) in
-    let all = ones_few (number_of bytes) 0 256 in
-    omega arith
 
 -- ---- full slices
 

@@ -28,17 +28,18 @@ pub few_set : (base count n : ℕ) (front bytes out : List ℕ) → count < 32 �
     → take n out ≡ front ++ map (λ i. base + i) (slice_numbers count bytes)
 few_set base count n front bytes out few e = e ∙ ap (λ (l : List ℕ). front ++ map (λ i. base + i) l) (sym (few_numbers count bytes few))
 
--- of 32 bytes that are written, the first few are a short slice
-pub first_few : (base count start at n : ℕ) (old slices out : List ℕ) → count < 32 → at ≤ length old → n ≡ at + length (take (start + 32 - start) (drop start slices))
-    → start + 32 ≤ length slices → take n out ≡ take at old ++ map (λ i. base + i) (take (start + 32 - start) (drop start slices))
+-- of some bytes that are written, the first few are a short slice
+pub first_few : (size base count start at n : ℕ) (old slices out : List ℕ) → count ≤ size → count < 32 → at ≤ length old
+    → n ≡ at + length (take (start + size - start) (drop start slices))
+    → start + size ≤ length slices → take n out ≡ take at old ++ map (λ i. base + i) (take (start + size - start) (drop start slices))
     → take (at + count) out ≡ take at old ++ map (λ i. base + i) (slice_numbers count (take (slice_len count) (drop start slices)))
-first_few base count start at n old slices out few within end room e =
+first_few size base count start at n old slices out less few within end room e =
     let f : List ℕ → List ℕ = map (λ i. base + i) in
-    let bytes : List ℕ = take (start + 32 - start) (drop start slices) in
-    let long = lent_len start 32 slices room in
-    let size : slice_len count ≡ count = sym (cond_below count 32 count _ few) in
+    let bytes : List ℕ = take (start + size - start) (drop start slices) in
+    let long = lent_len start size slices room in
+    let own : slice_len count ≡ count = sym (cond_below count 32 count _ few) in
     sym (take-take (at + count) n out (omega arith)) ∙ ap (take (at + count)) e ∙ take_past at count (take at old) (f bytes) (length-take-le at old within)
     ∙ ap (λ (l : List ℕ). take at old ++ l) (take-map (λ i. base + i) count bytes)
     ∙ ap (λ (l : List ℕ). take at old ++ f l)
-    (take-take count (start + 32 - start) (drop start slices) (omega arith) ∙ ap (λ (m : ℕ). take m (drop start slices)) (sym size)
+    (take-take count (start + size - start) (drop start slices) (omega arith) ∙ ap (λ (m : ℕ). take m (drop start slices)) (sym own)
     ∙ sym (few_numbers count (take (slice_len count) (drop start slices)) few))

@@ -1,14 +1,14 @@
 -- The numbers of the slices before that of the high byte, and those of its own.
-use Rattle.std.proofs.Common.{◌≡◌, ◌∙◌, ◌+◌, ◌-◌, ◌/◌, ◌%◌, ◌<◌, ◌≤◌, ℕ, List, ap, sym, arith, length, drop, take, get_or}
+use Rattle.std.proofs.Common.{◌≡◌, ◌∙◌, ◌+◌, ◌/◌, ◌%◌, ◌<◌, ◌≤◌, ℕ, List, ap, sym, arith, length, take}
 use Rattle.std.proofs.lemmas.List.{length-take-le}
-use Rattle.bitpack_slices.proofs.lemmas.bodies.BlockReads.{numbers_few, rank_not_there, rank_there, slice_there}
+use Rattle.bitpack_slices.proofs.lemmas.bodies.BlockReads.{numbers_few, rank_not_there, rank_there}
 use Rattle.bitpack_slices.proofs.lemmas.bits.CountLaws.{bytes_are}
-use Rattle.bitpack_slices.proofs.lemmas.bodies.CutLaws.{slice_cut}
-use Rattle.bitpack_slices.proofs.lemmas.bodies.ReadLaws.{offset_fits, rank_le, rank_less}
+use Rattle.bitpack_slices.proofs.lemmas.bodies.ReadLaws.{rank_le, rank_less}
 use Rattle.bitpack_slices.proofs.lemmas.bodies.TestLaws.{bytes_taken}
 use Rattle.bitpack_slices.proofs.chunk.parts.Parts.rank.Goals as goal
 use Rattle.bitpack_slices.specs.Reads.{rank}
-use Rattle.bitpack_slices.specs.Slices.{AreSlices, numbers_in, slice_len, slice_numbers, slices_len}
+use Rattle.bitpack_slices.specs.Selections.{numbers_at}
+use Rattle.bitpack_slices.specs.Slices.{numbers_in, slice_numbers}
 
 -- the position of the high byte is among the counts
 at_most : (i x : ℕ) (hs counts : List ℕ) → i ≡ rank x hs → length hs ≡ length counts → i ≤ length counts
@@ -16,12 +16,6 @@ at_most i x hs counts e size = let most = rank_le x hs in omega arith
 
 below_counts : (i x : ℕ) (hs counts : List ℕ) → i ≡ rank x hs → rank x hs < length hs → length hs ≡ length counts → i < length counts
 below_counts i x hs counts e less size = omega arith
-
--- as many numbers as the count says
-own_few : (i offset size : ℕ) (counts bytes : List ℕ) → AreSlices counts bytes → offset ≡ slices_len (take i counts) → size ≡ slice_len (get_or counts i 0 + 1) → i < length counts
-    → length (slice_numbers (get_or counts i 0 + 1) (take (offset + size - offset) (drop offset bytes))) ≡ get_or counts i 0 + 1
-own_few i offset size counts bytes are e f lt =
-    ap (λ (l : List ℕ). length (slice_numbers (get_or counts i 0 + 1) l)) (slice_cut (get_or counts i 0 + 1) offset size (slices_len (take i counts)) bytes e f) ∙ (slice_there i counts bytes are lt).count_is
 
 pub slice_bounds-count_numbers-end : goal.slice_bounds-count_numbers-end
 slice_bounds-count_numbers-end c =
@@ -35,31 +29,11 @@ returns-then-not-in_slice c =
     ∙ sym (rank_not_there c.args.number c.rank_in_slice-index.result hs c.args.self.counts.now c.args.self.slices.now c.args.self.occur.count_is c.args.self.occur.rising c.args.self.are c.rank_in_slice-index.ensures
     (sym c.in_slice.ensures ∙ c.if-not-in_slice.true))
 
-pub offset_of_slice-offset-requires-clause-within : goal.offset_of_slice-offset-requires-clause-within
-offset_of_slice-offset-requires-clause-within c =
+pub slice_at-slice-requires : goal.slice_at-slice-requires
+slice_at-slice-requires c =
     let few = rank_less (c.args.number / 256) (slice_numbers (length c.args.self.counts.now) c.args.self.highs.now) (sym c.in_slice.ensures ∙ c.if-not-in_slice.false) in
     let size = c.args.self.occur.count_is in
     omega (arith, c.rank_in_slice-index.ensures)
-
-pub bounds-self-index : goal.bounds-self-index
-bounds-self-index c =
-    let few = rank_less (c.args.number / 256) (slice_numbers (length c.args.self.counts.now) c.args.self.highs.now) (sym c.in_slice.ensures ∙ c.if-not-in_slice.false) in
-    let size = c.args.self.occur.count_is in
-    omega (arith, c.rank_in_slice-index.ensures)
-
-pub overflow_add-offset : goal.overflow_add-offset
-overflow_add-offset c =
-    let few = rank_less (c.args.number / 256) (slice_numbers (length c.args.self.counts.now) c.args.self.highs.now) (sym c.in_slice.ensures ∙ c.if-not-in_slice.false) in
-    let size = c.args.self.occur.count_is in
-    let fits = offset_fits c.rank_in_slice-index.result c.args.self.counts.now c.args.self.slices.now c.args.self.are (omega (arith, c.rank_in_slice-index.ensures)) in
-    omega (arith, c.offset_of_slice-offset.ensures, c.byte_len-size.ensures)
-
-pub slice_bounds-rank_in_slice-end : goal.slice_bounds-rank_in_slice-end
-slice_bounds-rank_in_slice-end c =
-    let few = rank_less (c.args.number / 256) (slice_numbers (length c.args.self.counts.now) c.args.self.highs.now) (sym c.in_slice.ensures ∙ c.if-not-in_slice.false) in
-    let size = c.args.self.occur.count_is in
-    let fits = offset_fits c.rank_in_slice-index.result c.args.self.counts.now c.args.self.slices.now c.args.self.are (omega (arith, c.rank_in_slice-index.ensures)) in
-    omega (arith, c.offset_of_slice-offset.ensures, c.byte_len-size.ensures)
 
 pub overflow_add-result : goal.overflow_add-result
 overflow_add-result c =
@@ -69,11 +43,12 @@ overflow_add-result c =
     let most = at_most index (c.args.number / 256) (slice_numbers (length counts) c.args.self.highs.now) counts c.rank_in_slice-index.ensures c.args.self.occur.count_is in
     let few = numbers_few (take index counts) are in
     let long = length-take-le index counts most in
-    let less = rank_le (c.args.number % 256) (slice_numbers (get_or counts index 0 + 1) (take (c.offset_of_slice-offset.result + c.byte_len-size.result - c.offset_of_slice-offset.result) (drop c.offset_of_slice-offset.result c.args.self.slices.now))) in
-    let own = own_few index c.offset_of_slice-offset.result c.byte_len-size.result counts c.args.self.slices.now c.args.self.are c.offset_of_slice-offset.ensures c.byte_len-size.ensures
-    (let small = rank_less (c.args.number / 256) (slice_numbers (length counts) c.args.self.highs.now) (sym c.in_slice.ensures ∙ c.if-not-in_slice.false) in let size = c.args.self.occur.count_is in omega (arith, c.rank_in_slice-index.ensures)) in
+    let slice = c.slice_at-slice.result in
+    let less = rank_le (c.args.number % 256) (numbers_at slice) in
+    let own = slice.there.slice.count_is in
     let byte = c.args.self.are_bytes index in
-    omega (arith, c.count_numbers-before.ensures, c.rank_in_slice.ensures)
+    let is = ap (λ (l : List ℕ). rank (c.args.number % 256) (slice_numbers slice.count l)) c.bytes.ensures in
+    omega (arith, c.count_numbers-before.ensures, c.rank_in_slice.ensures, slice.there.few)
 
 pub returns : goal.returns
 returns c =
@@ -81,7 +56,8 @@ returns c =
     let index : ℕ = c.rank_in_slice-index.result in
     let counts : List ℕ = c.args.self.counts.now in
     let lt = (let small = rank_less (c.args.number / 256) hs (sym c.in_slice.ensures ∙ c.if-not-in_slice.false) in let size = c.args.self.occur.count_is in below_counts index (c.args.number / 256) hs counts c.rank_in_slice-index.ensures small size) in
-    let same = slice_cut (get_or counts index 0 + 1) c.offset_of_slice-offset.result c.byte_len-size.result (slices_len (take index counts)) c.args.self.slices.now c.offset_of_slice-offset.ensures c.byte_len-size.ensures in
+    let slice = c.slice_at-slice.result in
+    let same = ap (λ (l : List ℕ). rank (c.args.number % 256) (slice_numbers slice.count l)) c.bytes.ensures ∙ ap (rank (c.args.number % 256)) c.slice_at-slice.ensures.numbers in
     ap (λ (n : ℕ). n + c.rank_in_slice.result) c.count_numbers-before.ensures
-    ∙ ap (λ (n : ℕ). numbers_in (take index counts) + n) (c.rank_in_slice.ensures ∙ ap (λ (l : List ℕ). rank (c.args.number % 256) (slice_numbers (get_or counts index 0 + 1) l)) same)
+    ∙ ap (λ (n : ℕ). numbers_in (take index counts) + n) (c.rank_in_slice.ensures ∙ same)
     ∙ sym (rank_there c.args.number index hs counts c.args.self.slices.now c.args.self.occur.count_is c.args.self.occur.rising c.args.self.are lt c.rank_in_slice-index.ensures (sym c.in_slice.ensures ∙ c.if-not-in_slice.false))
