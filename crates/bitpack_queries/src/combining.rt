@@ -1,6 +1,6 @@
 //! Combines two sets.
 
-ghost use Rattle.std.specs.Prelude.{◌≡◌, ◌+◌, ◌*◌, ◌^◌, ◌<◌, ◌≤◌, ◌↔◌, [], IfErr, IfOk, IsTrue, OnErr, length, map, take};
+ghost use Rattle.std.specs.Prelude.{◌≡◌, ◌+◌, ◌*◌, ◌^◌, ◌<◌, ◌≤◌, ◌↔◌, [], None, IfErr, IfOk, IfSome, IsTrue, OnErr, length, map, take};
 ghost use Rattle.bitpack_slices.specs.Follows.{Follow};
 ghost use Rattle.bitpack_sets.specs.Opened.{ids};
 ghost use Rattle.bitpack_slices.specs.Operations.{answer, those};
@@ -30,11 +30,11 @@ pub fn combine_to(
     ensures short { IfErr result (λ e. e ≡ SetError.Short) }
     ensures room { OnErr result (length out.old < length (answer operation (ids a.now) (ids b.now))) }
 {
-    let count = write(operation, a, b, out);
-    if count > out.len() {
-        return Err(SetError::Short);
+    let room = out.len();
+    match list(operation, a, b, room, out) {
+        Some(count) => Ok(count),
+        None => Err(SetError::Short),
     }
-    Ok(count)
 }
 
 /// How many ids an operation on two sets gives. Allocates nothing.
@@ -42,7 +42,7 @@ pub fn combine_count(operation: Operation, a: &IdSet, b: &IdSet) -> usize
     ensures { result ≡ length (answer operation (ids a.now) (ids b.now)) }
 {
     // To count what both have is the fastest.
-    let both = write(Operation::And, a, b, &mut []);
+    let both = list(Operation::And, a, b, usize::MAX, &mut []).unwrap();
     match operation {
         Operation::And => both,
         Operation::Or => a.len() + b.len() - both,
@@ -70,49 +70,52 @@ pub fn is_subset(a: &IdSet, b: &IdSet) -> bool
 fn gives_none(operation: Operation, a: &IdSet, b: &IdSet) -> bool
     ensures { IsTrue result ↔ (answer operation (ids a.now) (ids b.now) ≡ []) }
 {
-    let mut rooms = ([0; ROOM], [0; ROOM]);
-    let mut pair = Pair::new(
-        operation,
-        chunks_of(a, &mut rooms.0),
-        chunks_of(b, &mut rooms.1),
-    );
-    while let Some(meeting) = pair.next() {
-        if write_meeting(&pair, meeting, &mut [], 0) > 0 {
-            return false;
-        }
-    }
-    true
+    list(operation, a, b, 0, &mut []).is_some()
 }
 
-/// Writes the ids that an operation on two sets gives, if there is room for all. Returns their number.
-fn write(operation: Operation, a: &IdSet, b: &IdSet, out: &mut [u32]) -> usize
-    ensures { Follow (answer operation (ids a.now) (ids b.now)) out.old out.new 0 result }
+/// Writes the ids that an operation on two sets gives, if there is room for all. Returns their number, or `None` if there are more than `most`.
+pub(crate) fn list(
+    operation: Operation,
+    a: &IdSet,
+    b: &IdSet,
+    most: usize,
+    out: &mut [u32],
+) -> Option<usize>
+    ensures few { IfSome result (λ count. count ≤ most) }
+    ensures written { IfSome result (λ count. Follow (answer operation (ids a.now) (ids b.now)) out.old out.new 0 count) }
+    ensures none { result ≡ None → most < length (answer operation (ids a.now) (ids b.now)) }
 {
     let mut rooms = ([0; ROOM], [0; ROOM]);
     let x = chunks_of(a, &mut rooms.0);
     let y = chunks_of(b, &mut rooms.1);
     if let Some(list) = x.listed() {
         if let Some(other) = y.listed() {
-            return merge(operation, &list, &other, out, 0);
+            let count = merge(operation, &list, &other, out, 0);
+            return if count <= most { Some(count) } else { None };
         }
     }
-    write_chunks(Pair::new(operation, x, y), out)
+    write_chunks(Pair::new(operation, x, y), most, out)
 }
 
-/// Writes the ids that an operation on two sets gives, chunk by chunk, if there is room for all. Returns their number.
-fn write_chunks(mut pair: Pair, out: &mut [u32]) -> usize
-    ensures { Follow (those (2 ^ 32) (left pair.entry)) out.old out.new 0 result }
+/// Writes the ids that an operation on two sets gives, chunk by chunk, if there is room for all. Returns their number, or `None` as soon as there
+/// are more than `most`.
+fn write_chunks(mut pair: Pair, most: usize, out: &mut [u32]) -> Option<usize>
+    ensures few { IfSome result (λ count. count ≤ most) }
+    ensures written { IfSome result (λ count. Follow (those (2 ^ 32) (left pair.entry)) out.old out.new 0 count) }
+    ensures none { result ≡ None → most < length (those (2 ^ 32) (left pair.entry)) }
 {
     let mut at = 0;
     while let Some(meeting) = pair.next() {
         at = write_meeting(&pair, meeting, out, at);
+        if at > most {
+            return None;
+        }
     }
-    at
+    Some(at)
 }
 
-/// Writes the ids of a key that are in the answer, if there is room for all. Returns the index after the last, or one past the slice if there
-/// is no room.
-pub(crate) fn write_meeting(pair: &Pair, meeting: Meeting, out: &mut [u32], at: usize) -> usize
+/// Writes the ids of a key that are in the answer, if there is room for all. Returns the index after the last, also if there is no room.
+fn write_meeting(pair: &Pair, meeting: Meeting, out: &mut [u32], at: usize) -> usize
     requires meeting { IsMeeting pair.now meeting }
     requires start { at ≤ 2 ^ 32 }
     ensures { Follow (map (λ i. meeting.key * 65536 + i) (those 65536 (meets pair.now meeting))) out.old out.new at result }

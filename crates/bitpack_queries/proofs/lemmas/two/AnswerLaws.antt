@@ -1,7 +1,7 @@
 -- The numbers below a bound that pass a test, and the answer chunk by chunk.
-use Rattle.std.proofs.Common.{length, take, length-append, ◌≡◌, ℕ, ◌+◌, ◌-◌, ◌*◌, ◌/◌, ◌%◌, ◌^◌, ◌<◌, ◌≤◌, Bool, true, false, List, [], ◌++◌, map, sym, ap, ◌∙◌, arith, subst, inl, inr}
+use Rattle.std.proofs.Common.{length, take, length-append, ◌≡◌, ℕ, ◌+◌, ◌-◌, ◌*◌, ◌/◌, ◌%◌, ◌^◌, ◌<◌, ◌≤◌, Bool, true, false, List, ◌++◌, map, sym, ap, ◌∙◌, arith, subst, inl, inr}
 use Rattle.std.proofs.lemmas.Bool.{cases_lt}
-use Rattle.std.proofs.lemmas.List.{append-nil, length-map, length-take-le, nil_from_length}
+use Rattle.std.proofs.lemmas.List.{append-nil, length-map, length-take-le}
 use Rattle.bitpack_slices.proofs.ForCallers.{each, has_those, map_zero, none_left, none_pass, none_right, those_part, those_rise, those_same}
 use Rattle.bitpack_sets.specs.Chunks.{lows_between}
 use Rattle.bitpack_slices.specs.Operations.{answer, apply, those}
@@ -100,13 +100,6 @@ length_all out at all more so none = sym (length-take-le at out so.within) ∙ a
 pub record Counted (count : ℕ) (all : List ℕ) (more : ℕ → Bool) : Type 0 where
   pub rest : length all ≡ count + length (those (2 ^ 32) more)
 
-pub counted_more : (count count' key : ℕ) (all : List ℕ) (test before after : ℕ → Bool) → Counted count all before → IsPart key test before after
-    → count' ≡ count + length (those 65536 test) → Counted count' all after
-counted_more count count' key all test before after so part e =
-    let rest = so.rest in
-    let cut = part_len key test before after part in
-    record { rest = omega arith }
-
 pub counted_so : (out : List ℕ) (at : ℕ) (all : List ℕ) (more : ℕ → Bool) → Written out at all more → Counted at all more
 counted_so out at all more so = record {
   rest = ap length so.parts ∙ length-append (take at out) (those (2 ^ 32) more) ∙ ap (λ (n : ℕ). n + length (those (2 ^ 32) more)) (length-take-le at out so.within);
@@ -117,9 +110,3 @@ counted_all count all more so none =
     let rest = so.rest in
     let end : length (those (2 ^ 32) more) ≡ 0 = ap length (none_pass (2 ^ 32) more none) in
     omega arith
-
-pub none_counted : (all : List ℕ) (more : ℕ → Bool) → Counted 0 all more → ((x : ℕ) → x < 2 ^ 32 → more x ≡ false) → all ≡ []
-none_counted all more so none = nil_from_length all (sym (counted_all 0 all more so none))
-
-pub some_counted : (count : ℕ) (all : List ℕ) (more : ℕ → Bool) → Counted count all more → 0 < count → all ≡ [] → ⊥
-some_counted count all more so some e = let rest = so.rest in let no : length all ≡ 0 = ap length e in omega arith

@@ -5,6 +5,14 @@ use Rattle.bitpack_slices.proofs.ForCallers.{those_are}
 use Rattle.bitpack_slices.specs.Bodies.{IsRising}
 use Rattle.bitpack_slices.specs.Operations.{those}
 use Rattle.bitpack_slices.specs.Reads.{has}
+use Rattle.bitpack_sets.proofs.ForCallers.{ids_are_read}
+use Rattle.bitpack_sets.specs.Opened.{ids}
+use Rattle.bitpack_sets.specs.Sets.{IsSet}
+use Rattle.bitpack_sets.specs.declared.id_set.IdSet.{IdSet}
+
+-- the ids of an opened set
+pub set_is : (set : IdSet) → IsSet (ids set)
+set_is set = (ids_are_read set.bytes.now set.are_bytes set.states.none).0
 
 head_len : (b : Bool) (x : ℕ) (xs : List ℕ) → length (cond b (x ∷ xs) xs) ≡ cond b 1 0 + length xs
 head_len true x xs = omega arith
