@@ -1,6 +1,6 @@
 #!/usr/bin/env python3
 """Measures queries over the words of a machine's text files: id sets beside plain arrays, CRoaring and Xapian, and the ten best documents
-by sets and columns beside a scan and Xapian. Prints the two tables of docs/SPEED.md, and the numbers of README.md:
+by sets and columns beside a scan and Xapian. Prints the tables of docs/SPEED.md, and the numbers of README.md:
 
     scripts/bench/search_speed.py [--rounds N] [--core N] [--megabytes N] [--roaring FOLDER] [FOLDER ..]
     scripts/bench/search_speed.py --try
@@ -146,7 +146,12 @@ def show(said, postings):
             yield name, {way: form(it, its) for way, it in its.items()}
 
     bits = {way: f"{8 * it / postings:.2f}" for way, it in found["bytes", ""].items()}
-    measured.show("queries a second", bits, [("bits a posting", bits), *rows("queries", SETS, lambda it, _: f"{1 / it:,.0f}")])
+    closed, queries = "to a set, CRoaring = 1", list(rows("queries", SETS, lambda it, _: f"{1 / it:,.0f}"))
+    for number, (_, cells) in enumerate(queries):
+        its = found["queries", str(number)]
+        if "CRoaring, to a set" in its:
+            cells[closed] = f"{its['CRoaring, to a set'] / its['sets, to a set']:.2f}"
+    measured.show("queries a second", [*bits, closed], [("bits a posting", bits), *queries])
     measured.show("the best ten, ms a query", found["ranked", "0"], rows("ranked", RANKED, lambda it, _: f"{1e3 * it:.2f}"))
     shares = rows("queries", SETS, lambda it, its: f"{its.get('CRoaring', 0) / it:.2f}")
     measured.show("speed, CRoaring = 1", ["sets", "CRoaring", "arrays", "Xapian"], shares)

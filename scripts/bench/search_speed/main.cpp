@@ -1,5 +1,5 @@
 // Answers queries in each way, in turns: `search FOLDER ROUNDS`. All ways have to give the same ids. Prints lines with tabs: the bytes of each way,
-// and for each set of queries the least processor time of a round for a query.
+// and for each set of queries the least processor time of a round for a query, with ids and with a set as its answer.
 #include "arrays.hpp"
 #include "sets.hpp"
 #include "ranking.hpp"
@@ -53,7 +53,7 @@ void measure(const Corpus &corpus, const char *file, Ways &ways, int rounds)
         for (int round = 0; round < rounds; round++)
             for (size_t i = 0; i < ways.size(); i++)
                 if (round < ways[i]->rounds)
-                    best[i] = std::min(best[i], timed(*ways[i], queries, room.data()));
+                    best[i] = std::min(best[i], timed(*ways[i], queries, ways[i]->gives_sets ? nullptr : room.data()));
         for (size_t i = 0; i < ways.size(); i++)
             printf("%s\t%s\t%s\t%.9f\n", file, set.c_str(), ways[i]->name, best[i]);
     }
@@ -67,18 +67,24 @@ int main(int, char **arguments)
     Ways ways, ranking;
     ways.push_back(std::make_unique<Sets>(sets, corpus.documents(), false));
     ways.push_back(std::make_unique<Sets>(sets, corpus.documents(), true));
+    ways.push_back(std::make_unique<Closed>(sets, corpus.documents()));
     ways.push_back(std::make_unique<Arrays>(corpus));
     ranking.push_back(std::make_unique<Ranked>(corpus, sets, tables));
     ranking.push_back(std::make_unique<Scan>(corpus, tables));
 #ifdef ROARING
-    ways.push_back(std::make_unique<Roaring>(corpus));
+    auto roaring = std::make_unique<Roaring>(corpus), closed = std::make_unique<Roaring>(*roaring);
+    closed->name = "CRoaring, to a set";
+    closed->gives_sets = true;
+    ways.push_back(std::move(roaring));
+    ways.push_back(std::move(closed));
 #endif
 #ifdef XAPIAN
     ways.push_back(std::make_unique<ByXapian>(corpus, false));
     ranking.push_back(std::make_unique<ByXapian>(corpus, true));
 #endif
     for (auto &way : ways)
-        printf("bytes\t\t%s\t%zu\n", way->name, way->bytes);
+        if (!way->gives_sets)
+            printf("bytes\t\t%s\t%zu\n", way->name, way->bytes);
     measure(corpus, "queries", ways, atoi(arguments[2]));
     measure(corpus, "ranked", ranking, atoi(arguments[2]));
 }

@@ -27,7 +27,8 @@ struct Roaring : Way {
             });
         roaring_bitmap_t *all = combined(query.operation);
         size_t count = roaring_bitmap_get_cardinality(all);
-        roaring_bitmap_to_uint32_array(all, out);
+        if (out)
+            roaring_bitmap_to_uint32_array(all, out);
         roaring_bitmap_free(all);
         return count;
     }

@@ -45,7 +45,7 @@ struct Sets : Way {
         bytes = its.bytes.size();
     }
 
-    size_t answer(const Query &query, uint32_t *out) override
+    void choose(const Query &query)
     {
         these.clear();
         for (size_t word : query.words)
@@ -53,6 +53,11 @@ struct Sets : Way {
         if (query.operation == '&')
             std::sort(these.begin(), these.end(),
                       [](const auto &one, const auto &other) { return bitpacking_set_len(&one) < bitpacking_set_len(&other); });
+    }
+
+    size_t answer(const Query &query, uint32_t *out) override
+    {
+        choose(query);
         auto call = query.operation == '&'   ? bitpacking_set_intersect
                     : query.operation == '|' ? bitpacking_set_unite
                                              : bitpacking_set_subtract;
@@ -60,5 +65,33 @@ struct Sets : Way {
         if (count < 0)
             fail(bitpacking_error_text(count));
         return count;
+    }
+};
+
+// Id sets whose answers are bytes of a set.
+struct Closed : Sets {
+    std::vector<uint32_t> room;
+    std::vector<uint8_t> answered;
+
+    Closed(const Packed &its, size_t count) : Sets(its, count, false)
+    {
+        name = "sets, to a set";
+        gives_sets = true;
+    }
+
+    size_t answer(const Query &query, uint32_t *out) override
+    {
+        choose(query);
+        size_t bytes_len = 8500;
+        for (const auto &it : these)
+            bytes_len += it.bytes_len;
+        answered.resize(std::max(answered.size(), bytes_len));
+        room.resize(std::max(room.size(), bitpacking_set_combine_room(these.data(), these.size())));
+        uint32_t operation = query.operation == '&' ? BITPACKING_AND : query.operation == '|' ? BITPACKING_OR : BITPACKING_AND_NOT;
+        ptrdiff_t size = bitpacking_set_combine(operation, these.data(), these.size(), room.data(), room.size(), answered.data(), answered.size());
+        bitpacking_set set = BITPACKING_SET_EMPTY;
+        if (size < 0 || (out && bitpacking_set_open(answered.data(), size, &set) != 0))
+            fail(bitpacking_error_text(size));
+        return out ? bitpacking_set_unpack(&set, out, documents) : size;
     }
 };

@@ -86,10 +86,13 @@ struct Way {
     size_t one_of = 1;
     // Whether it has to give the ids of the first way.
     bool is_compared = true;
+    // Whether its answers are timed as sets of its own.
+    bool gives_sets = false;
 
     explicit Way(const char *its) : name(its) {}
     virtual ~Way() = default;
-    // Writes the ids that answer to `out`, which has room for all documents: in order, or the best first. Returns how many they are.
+    // Writes the ids that answer to `out`, which has room for all documents: in order, or the best first. Returns how many they are. If `out` is null,
+    // the answer stays a set.
     virtual size_t answer(const Query &query, uint32_t *out) = 0;
 };
 
