@@ -1,9 +1,14 @@
 """What the benches share: the machine, the library, calls that take turns, and tables as docs/SPEED.md has them."""
+import glob
 import os
 import time
 
+from common import ROOT, called
 import archives
 import by_cargo
+
+# What the benches in C++ need of Debian's CRoaring: a file, and the package that has it.
+ROARING = ("/usr/include/roaring/roaring.h", "libroaring-dev")
 
 
 def library(level=None):
@@ -12,6 +17,21 @@ def library(level=None):
     if os.path.isfile(path) and not archives.are_fast():
         return path
     return by_cargo.archive(level) if level else by_cargo.for_all()
+
+
+def roaring(folder, sources):
+    """What a C++ compiler needs for CRoaring, Debian's or one that this builds for this processor, in a folder, from its sources."""
+    if not sources:
+        return ["-lroaring"]
+    include, files = f"-I{os.path.realpath(sources)}/include", glob.glob(f"{os.path.realpath(sources)}/src/**/*.c", recursive=True)
+    called("cc", "-O3", "-march=native", "-w", include, "-c", *files, folder=folder)
+    return [include, *glob.glob(f"{folder}/*.o")]
+
+
+def program(path, name, library, *words):
+    """Builds the program in C++ of this name over a library."""
+    warned = ["-std=c++17", "-Wall", "-Wextra", "-Werror", "-pthread", f"-I{ROOT}/include"]
+    called("g++", *warned, f"{ROOT}/scripts/bench/{name}/main.cpp", library, "-o", path, *words)
 
 
 def head(path=""):
@@ -40,8 +60,8 @@ def turns(ways, rounds, timed=processor_time):
     return least
 
 
-def show(title, columns, rows):
+def show(title, columns, rows, bar="| "):
     """Prints a table: the rows are their names, each with its cells by column, and a cell that is not there is empty."""
-    print(f"\n{'| '.join([title, *columns])}\n---{'|---' * len(columns)}")
+    print(f"\n{bar.join([title, *columns])}\n---{'|---' * len(columns)}")
     for name, cells in rows:
-        print("| ".join([name, *(f"{cells.get(column, '')}" for column in columns)]).rstrip(" |"), flush=True)
+        print(bar.join([name, *(f"{cells.get(column, '')}" for column in columns)]).rstrip(" |"), flush=True)

@@ -15,7 +15,6 @@ for this processor, from its sources in FOLDER (`apt-get source libroaring-dev`)
 import argparse
 import array
 import collections
-import glob
 import math
 import os
 import random
@@ -27,7 +26,7 @@ sys.path.insert(1, f"{sys.path[0]}/..")
 from common import ROOT, Failed, called, leave_out, left_out_without, report, run
 import measured
 
-HERE, CORPUS = f"{ROOT}/scripts/bench/search_speed", f"{ROOT}/examples/search/corpus"
+CORPUS = f"{ROOT}/examples/search/corpus"
 # The sets of queries with their names in the table: operation, how many queries, and of which words. The words of a query are of one document, of
 # each kind as many as the numbers say; or as many as a number says, which follow each other in the alphabet, as those with one prefix do. A word is
 # frequent if it is in one of 16 documents or more, when Roaring takes bitmaps; rare if it is in two or more, and in fewer than one of 1,000.
@@ -47,7 +46,7 @@ RANKED = {"a word": ("|", 100, [("any", 1, 1)])}
 RANKED |= {f"{name} of {n}": (sign, 100, [("any", n, n)]) for name, sign in (("AND", "&"), ("OR", "|")) for n in (2, 3, 4)}
 FREQUENT, RARE = 16, 1000
 # What a way needs that may not be installed: a file, and the package that has it.
-NEEDS = {"ROARING": ("/usr/include/roaring/roaring.h", "libroaring-dev"), "XAPIAN": ("/usr/bin/xapian-config", "libxapian-dev")}
+NEEDS = {"ROARING": measured.ROARING, "XAPIAN": ("/usr/bin/xapian-config", "libxapian-dev")}
 # The words of a text: letters and digits of ASCII, and other bytes end a word. One of more than 64 bytes is none.
 SIGNS = bytes(byte if bytes([byte]).isalnum() else 32 for byte in range(256)).lower()
 
@@ -113,20 +112,14 @@ def built(folder, library, roaring, level):
     defines = [
         name for name, (path, package) in NEEDS.items() if os.path.exists(path) or leave_out(f"the way {name}", f"without {package}")
     ]
-    words = ["g++", "-std=c++17", level, "-Wall", "-Wextra", "-Werror", "-pthread", f"-I{ROOT}/include", *(f"-D{it}" for it in defines)]
-    words += [f"{HERE}/main.cpp", library, "-o", f"{folder}/search"]
-    if roaring:
-        sources = glob.glob(f"{roaring}/src/**/*.c", recursive=True)
-        called("cc", "-O3", "-march=native", "-w", f"-I{roaring}/include", "-c", *sources, folder=folder)
-        words += [f"-I{roaring}/include", *glob.glob(f"{folder}/*.o")]
-    words += ["-lroaring"] * ("ROARING" in defines and not roaring)
+    words = [*(f"-D{it}" for it in defines), *(measured.roaring(folder, roaring) if "ROARING" in defines else [])]
     words += run("xapian-config", "--cxxflags", "--libs").stdout.split() if "XAPIAN" in defines else []
-    called(*words)
+    measured.program(f"{folder}/search", "search_speed", library, level, *words)
 
 
 def measure(folder, tops, given, one_of, level, *pinned):
     """Measures queries over the words below some folders. Returns how many postings there are, and rows of words."""
-    built(folder, measured.library(), given.roaring and os.path.realpath(given.roaring), level)
+    built(folder, measured.library(), given.roaring, level)
     documents, lens, chosen = write_words(tops, folder, 10**6 * given.megabytes, one_of)
     for name, sets in ("queries", SETS), ("ranked", RANKED):
         write_queries(f"{folder}/{name}", documents, lens, chosen, sets)

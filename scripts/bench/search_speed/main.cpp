@@ -10,15 +10,6 @@
 #include "xapian.hpp"
 #endif
 
-#include <ctime>
-
-double now()
-{
-    timespec time;
-    clock_gettime(CLOCK_PROCESS_CPUTIME_ID, &time);
-    return time.tv_sec + time.tv_nsec * 1e-9;
-}
-
 // The seconds of a query in a round.
 double timed(Way &way, const std::vector<Query> &queries, uint32_t *out)
 {

@@ -1,24 +1,14 @@
 // The words of a corpus, queries over them, and what a way to keep them implements.
 #pragma once
+#include "../measured.hpp"
+
 #include <algorithm>
 #include <cmath>
-#include <cstdint>
-#include <cstdio>
-#include <cstdlib>
 #include <cstring>
-#include <fstream>
 #include <map>
 #include <memory>
 #include <sstream>
-#include <string>
 #include <utility>
-#include <vector>
-
-inline void fail(const std::string &what)
-{
-    fprintf(stderr, "%s\n", what.c_str());
-    exit(1);
-}
 
 // '&' asks for the documents with all words, '|' for those with any, and '-' for those with the first word and no other.
 struct Query {
@@ -36,13 +26,13 @@ struct Ids {
 // document the class of its length, which is eight times the logarithm of base 2.
 struct Corpus {
     std::string folder;
-    std::vector<uint32_t> ids = numbers<uint32_t>("ids"), counts = numbers<uint32_t>("counts");
-    std::vector<uint8_t> classes = numbers<uint8_t>("classes");
+    std::vector<uint32_t> ids = numbers<uint32_t>(folder + "/ids"), counts = numbers<uint32_t>(folder + "/counts");
+    std::vector<uint8_t> classes = numbers<uint8_t>(folder + "/classes");
     std::vector<size_t> starts{0};
 
     explicit Corpus(const std::string &from) : folder(from)
     {
-        for (uint32_t len : numbers<uint32_t>("lens"))
+        for (uint32_t len : numbers<uint32_t>(folder + "/lens"))
             starts.push_back(starts.back() + len);
     }
 
@@ -64,16 +54,6 @@ struct Corpus {
                 query.words.push_back(word);
             found.push_back(query);
         }
-        return found;
-    }
-
-  private:
-    template <typename Number> std::vector<Number> numbers(const char *name) const
-    {
-        std::ifstream file(folder + '/' + name, std::ios::binary | std::ios::ate);
-        std::vector<Number> found(file.tellg() / sizeof(Number));
-        file.seekg(0);
-        file.read(reinterpret_cast<char *>(found.data()), sizeof(Number) * found.size());
         return found;
     }
 };
