@@ -136,7 +136,6 @@ int main(int count, char **words)
     BLOCKS(8, 8x, _sorted, 1, SORTED_BEFORE);
     BLOCKS(8, 8x, _strictly_sorted, 2, BEFORE);
     time_column(BITPACKING_PLAIN, 1 << 5, rounds);
-    time_column(BITPACKING_PLAIN, 1 << 12, rounds);
     time_column(BITPACKING_PLAIN, 1 << 20, rounds);
     time_column(BITPACKING_SORTED, 20, rounds);
     time_column(BITPACKING_SORTED, 2000, rounds);

@@ -34,11 +34,11 @@ def bitmap_of(values):
     return call("of_ptr", len(values), values.ctypes.data)
 
 
-def array_of(bitmap, is_last_use=False):
+def array_of(bitmap):
+    """The ids of a bitmap, which is freed."""
     out = np.empty(call("get_cardinality", bitmap), "u4")
     call("to_uint32_array", bitmap, out.ctypes.data)
-    if is_last_use:
-        call("free", bitmap)
+    call("free", bitmap)
     return out
 
 
@@ -58,20 +58,12 @@ def saved_by_numpy(values):
 
 def rows(a, b):
     """Each row as a name, and a call for each way."""
-    one, other = fimulowen.IdSet(a), fimulowen.IdSet(b)
-    bitmaps, text, array, bitmap = (bitmap_of(a), bitmap_of(b)), one.tobytes(), saved_by_numpy(a), saved(a)
-    joined = lambda name: lambda: array_of(call(name, *bitmaps), True)
-    read = lambda: array_of(call("portable_deserialize_safe", ctypes.addressof(bitmap), len(bitmap)), True)
+    one, other, bitmaps = fimulowen.IdSet(a), fimulowen.IdSet(b), (bitmap_of(a), bitmap_of(b))
+    joined = lambda name: lambda: array_of(call(name, *bitmaps))
     assert (fimulowen.intersect(one, other) == np.intersect1d(a, b)).all() and (joined("or")() == fimulowen.unite(one, other)).all()
-    yield "bits an id", (one.nbytes, a.nbytes, len(bitmap))
     yield "array to bytes", (lambda: fimulowen.IdSet(a).data, lambda: saved_by_numpy(a), lambda: saved(a))
-    yield "bytes to array", (lambda: fimulowen.IdSet.open(text).unpack(), lambda: array.seek(0) or np.load(array), read)
-    yield "opened set to array", (one.unpack, a.copy, lambda: array_of(bitmaps[0]))
     yield "AND to an array", (lambda: fimulowen.intersect(one, other), lambda: np.intersect1d(a, b, assume_unique=True), joined("and"))
-    yield "AND to a set", (lambda: one & other,)
-    yield "AND to a count", (lambda: fimulowen.intersect_len(one, other), None, lambda: call("and_cardinality", *bitmaps))
     yield "OR to an array", (lambda: fimulowen.unite(one, other), lambda: np.union1d(a, b), joined("or"))
-    yield "NOT to an array", (lambda: fimulowen.subtract(one, other), lambda: np.setdiff1d(a, b, assume_unique=True), joined("andnot"))
 
 
 def timed(rounds):
@@ -80,13 +72,8 @@ def timed(rounds):
     for most in RANGES:
         a, b = (np.sort(random.choice(most, COUNT, replace=False)).astype("u4") for _ in range(2))
         for name, ways in rows(a, b):
-            if name == "bits an id":
-                its = {way: 8 * size / COUNT for way, size in zip(columns, ways)}
-            else:
-                calls = {way: call for way, call in zip(columns, ways) if call}
-                its = {way: 1e3 * it for way, it in measured.turns(calls, rounds).items()}
-            for way, it in its.items():
-                found.setdefault(name, {}).setdefault(way, []).append(f"{it:.1f}")
+            for way, it in measured.turns(dict(zip(columns, ways)), rounds).items():
+                found.setdefault(name, {}).setdefault(way, []).append(f"{1e3 * it:.1f}")
     print(measured.head(os.environ["MEASURED"]))
     cells = [(name, {way: "/".join(its) for way, its in ways.items()}) for name, ways in found.items()]
     measured.show(f"two sets of {COUNT:,} ids below {'/'.join(f'{it:,}' for it in RANGES)}, ms", columns, cells)

@@ -29,22 +29,19 @@ import measured
 CORPUS = f"{ROOT}/examples/search/corpus"
 # The sets of queries with their names in the table: operation, how many queries, and of which words. The words of a query are of one document, of
 # each kind as many as the numbers say; or as many as a number says, which follow each other in the alphabet, as those with one prefix do. A word is
-# frequent if it is in one of 16 documents or more, when Roaring takes bitmaps; rare if it is in two or more, and in fewer than one of 1,000.
+# frequent if it is in one of 16 documents or more, when Roaring takes bitmaps.
 SETS = {
     "AND of 2 words": ("&", 2000, [("any", 2, 2)]),
     "AND of 3 words": ("&", 2000, [("any", 3, 3)]),
     "AND of 4 words": ("&", 2000, [("any", 4, 4)]),
     "AND of two frequent words": ("&", 300, [("frequent", 2, 2)]),
-    "AND of two rare words": ("&", 2000, [("rare", 2, 2)]),
-    "AND of a rare and a frequent word": ("&", 2000, [("rare", 1, 1), ("frequent", 1, 1)]),
     "OR of 2 to 4 words": ("|", 300, [("any", 2, 4)]),
-    "OR of two frequent words": ("|", 300, [("frequent", 2, 2)]),
     "OR of 1,000 words": ("|", 50, 1000),
     "AND NOT": ("-", 1000, [("any", 2, 2)]),
 }
 RANKED = {"a word": ("|", 100, [("any", 1, 1)])}
-RANKED |= {f"{name} of {n}": (sign, 100, [("any", n, n)]) for name, sign in (("AND", "&"), ("OR", "|")) for n in (2, 3, 4)}
-FREQUENT, RARE = 16, 1000
+RANKED |= {f"{name} of {n}": (sign, 100, [("any", n, n)]) for name, sign in (("AND", "&"), ("OR", "|")) for n in (2, 4)}
+FREQUENT = 16
 # What a way needs that may not be installed: a file, and the package that has it.
 NEEDS = {"ROARING": measured.ROARING, "XAPIAN": ("/usr/bin/xapian-config", "libxapian-dev")}
 # The words of a text: letters and digits of ASCII, and other bytes end a word. One of more than 64 bytes is none.
@@ -93,7 +90,7 @@ def write_words(folders, folder, most, one_of):
 def write_queries(path, documents, lens, chosen, sets):
     """Random queries, as the sets say. The seed is fixed. Returns the names of the sets by their numbers."""
     dice, lines = random.Random(1), []
-    fits = {"any": lambda n: True, "frequent": lambda n: n * FREQUENT >= documents, "rare": lambda n: 1 < n < documents / RARE}
+    fits = {"any": lambda n: True, "frequent": lambda n: n * FREQUENT >= documents}
     for number, (operation, count, kinds) in enumerate(sets.values()):
         if isinstance(kinds, int):
             choices = [[(run, len(run), len(run))] for run in (range(at, min(at + kinds, len(lens))) for at in range(0, len(lens), kinds))]
