@@ -8,6 +8,7 @@
 
 pub(crate) mod combining;
 pub mod loading;
+pub mod writing;
 
 ghost use Rattle.std.specs.Prelude.{◌≡◌, ℕ, ◌+◌, ◌*◌, ◌<◌, ◌≤◌, length, slice_index, take};
 ghost use Rattle.std.proofs.Props.{props};

@@ -4,6 +4,7 @@
 pub mod bits;
 pub(crate) mod mixing;
 pub mod runs;
+pub mod writing;
 
 ghost use Rattle.std.specs.Prelude.{◌+◌, ◌*◌, ◌%◌, ◌^◌, ◌<◌, ◌≤◌, length, map};
 ghost use Rattle.std.specs.List.{filter};

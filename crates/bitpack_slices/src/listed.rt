@@ -12,6 +12,7 @@ ghost use Rattle.bitpack_slices.specs.Bodies.{IsRising};
 ghost use Rattle.bitpack_slices.specs.Slices.{integers_of, pairs_of, quads_of};
 
 use crate::bitmap::single_bits::set_bit;
+use crate::bitmap::writing::{LONGEST_BLOCKS, write_blocks};
 use crate::chunk::search::number_at;
 use crate::integers::id_at;
 
@@ -26,10 +27,11 @@ pub struct Listed<'a> {
 }
 
 impl<'a> Listed<'a> {
-    ghost use Rattle.std.specs.Prelude.{◌≡◌, ℕ, ◌+◌, ◌%◌, ◌/◌, ◌<◌, ◌≤◌, false, length, map, slice_index};
+    ghost use Rattle.std.specs.Prelude.{◌≡◌, ℕ, ◌+◌, ◌%◌, ◌/◌, ◌<◌, ◌≤◌, false, length, map, slice_index, take};
     ghost use Rattle.bitpack_slices.specs.Bitmaps.{has_bit};
     ghost use Rattle.bitpack_slices.specs.Lists.{listed_ids};
     ghost use Rattle.bitpack_slices.specs.Reads.{has};
+    ghost use Rattle.bitpack_slices.specs.Slices.{IsBlocks, block_numbers};
 
     /// Ids of four bytes.
     pub fn ids(bytes: &'a [u8]) -> Listed<'a>
@@ -100,6 +102,18 @@ impl<'a> Listed<'a> {
             set_bit(words, low);
         }
         highs
+    }
+
+    /// Writes the low 16 bits of the ids as blocks. Returns how many bytes it wrote.
+    pub(crate) fn write_blocks(&self, out: &mut [u8; LONGEST_BLOCKS]) -> usize
+        requires some { 0 < length (listed_ids self.now) }
+        ensures few { result ≤ 8449 }
+        ensures are { IsBlocks (length (block_numbers (take result out.new))) (take result out.new) }
+        ensures numbers { (x : ℕ) → x < 65536 → has x (block_numbers (take result out.new)) ≡ has x (map (λ id. id % 65536) (listed_ids self.now)) }
+    {
+        let mut words = [0; 1024];
+        self.set_bits(&mut words);
+        write_blocks(&words, out)
     }
 }
 

@@ -103,4 +103,15 @@ impl<'a> Slice<'a> {
     {
         unpack_from(false, self.count, self.slices, self.start, base, out, at)
     }
+
+    /// Writes the bytes of the slice. Returns the index after the last. Up to 32 bytes from there on may change too.
+    #[inline(always)]
+    pub(crate) fn copy_bytes(self, out: &mut [u8], at: usize) -> usize
+        requires room { at + 32 ≤ length out.old }
+        ensures end { result ≡ at + slice_len self.entry.count }
+        ensures bytes { take result out.new ≡ take at out.old ++ bytes_of self.entry }
+    {
+        bytes_from(self.slices, self.start).copy_to_slice(&mut out[at..]);
+        at + byte_len(self.count)
+    }
 }

@@ -19,6 +19,11 @@ impl u8x8 {
         u8x8(*bytes.first_chunk().unwrap())
     }
 
+    #[inline(always)]
+    pub(crate) fn copy_to_slice(self, bytes: &mut [u8]) {
+        *bytes.first_chunk_mut().unwrap() = self.0;
+    }
+
     /// The bytes at these indices, each below 8.
     #[inline(always)]
     pub(crate) fn swizzle_dyn(self, indices: Self) -> Self {

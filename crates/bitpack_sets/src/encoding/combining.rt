@@ -14,6 +14,7 @@ use bitpack_slices::bitmap::bodies::{count_words, write_body as write_bitmap};
 use bitpack_slices::bitmap::writing::LONGEST_BLOCKS;
 use bitpack_slices::body::bits::combine_bits;
 use bitpack_slices::body::runs::write_both;
+use bitpack_slices::body::writing::write_slices;
 use bitpack_slices::body::{Body, combine};
 
 /// The most ids that are written from a list of them.
@@ -43,6 +44,9 @@ pub fn write_combined(
     if let (Body::Runs(x), Body::Runs(y)) = (a, b)
         && let Some(written) = write_both(operation, x, y, out)
     {
+        return written;
+    }
+    if let Some(written) = write_slices(operation, a, b, out) {
         return written;
     }
     if most_bytes(operation, a.size(), b.size()) <= MOST_BYTES {

@@ -8,6 +8,7 @@ pub mod BuildLaws
 pub mod ChangeLaws
 pub mod CutLaws
 pub mod JoinLaws
+pub mod KeptLaws
 pub mod LoadLaws
 pub mod LongLaws
 pub mod MergeRuns

@@ -100,7 +100,7 @@ fn put_slices(words: &[u64; 1024], highs: &[u32], counts: &mut [u8], slices: &mu
 ///
 /// If there is room, it writes several bytes of a short slice at a time, so up to eight bytes after the end may change too.
 #[inline(always)]
-fn put_slice_at(bits: &[u64], count: usize, out: &mut [u8], at: usize) -> usize
+pub(crate) fn put_slice_at(bits: &[u64], count: usize, out: &mut [u8], at: usize) -> usize
     requires bits { length bits.now ≡ 4 }
     requires count { count ≡ length (those 256 (has_bit bits.now)) }
     requires room { at + slice_len count ≤ length out.old }
@@ -220,7 +220,7 @@ fn put_byte(byte: u8, base: u8, out: &mut [u8], at: usize) -> usize
 
 /// Writes the slice of the numbers of bits that are 1, of 256.
 #[inline(always)]
-fn put_slice(bits: &[u64], count: usize, out: &mut [u8])
+pub(crate) fn put_slice(bits: &[u64], count: usize, out: &mut [u8])
     requires bits { length bits.now ≡ 4 }
     requires count { count ≡ length (those 256 (has_bit bits.now)) }
     requires size { length out.old ≡ slice_len count }

@@ -144,3 +144,40 @@ pub(crate) fn unpack_chosen(
     }
     next
 }
+
+/// Writes the bytes whose bit is 1, in order. Returns the index after the last.
+///
+/// It writes eight at a time, up to the last whose bit is 1.
+#[inline(always)]
+pub(crate) fn put_chosen(bytes: &[u8], matches: u32, out: &mut [u8], at: usize) -> usize
+    requires size { length bytes.now ≡ 32 }
+    requires room { at + 32 ≤ length out.old }
+    ensures end { result ≡ at + length (matched matches bytes.now) }
+    ensures values { take result out.new ≡ take at out.old ++ matched matches bytes.now }
+{
+    let mut next = at;
+    for i in 0..4 {
+        let left = matches >> (8 * i);
+        if left == 0 {
+            return next;
+        }
+        let eight = u8x8::from_slice(&bytes[8 * i..]);
+        next = put_some(eight, (left & 255) as u8, out, next);
+    }
+    next
+}
+
+/// Writes the bytes whose bit is 1, of eight, in order. Returns the index after the last.
+///
+/// It always writes eight, so up to eight bytes after the end may change too.
+#[inline(always)]
+fn put_some(bytes: u8x8, matches: u8, out: &mut [u8], at: usize) -> usize
+    requires room { at + 8 ≤ length out.old }
+    ensures end { result ≡ at + length (ones_from matches 0 8) }
+    ensures values { take result out.new ≡ take at out.old ++ map (slice_index bytes) (ones_from matches 0 8) }
+{
+    bytes
+        .swizzle_dyn(u8x8::from_array(positions_in(matches)))
+        .copy_to_slice(&mut out[at..]);
+    at + matches.count_ones() as usize
+}

@@ -3,16 +3,19 @@
 ghost use Rattle.std.specs.Prelude.{◌≡◌, ℕ, None, ◌+◌, ◌^◌, ◌<◌, ◌≤◌, ◌&&◌, ◌==◌, ◌++◌, IfSome, false, true, length, map, nat_lt, slice_index, take};
 ghost use Rattle.std.specs.Int.{bit_at};
 ghost use Rattle.bitpack_slices.specs.Bitmaps.{has_bit};
+ghost use Rattle.bitpack_slices.specs.Bodies.{slice};
 ghost use Rattle.bitpack_slices.specs.Operations.{apply, combined, those};
 ghost use Rattle.bitpack_slices.specs.Reads.{has};
 ghost use Rattle.bitpack_slices.specs.Selections.{bytes_of, matched, numbers_at};
+ghost use Rattle.bitpack_slices.specs.Slices.{slice_len};
 
 use crate::bitmap::unpacking::{count_bits, unpack_bits_within};
+use crate::bitmap::writing::put_slice_at;
 use crate::combined::{combined_words, retains_left, retains_right};
 use crate::operation::Operation;
 use crate::slice::Slice;
 use crate::slice::matches::{bytes_from, matches_in_bits, matches_of_bytes};
-use crate::slice::positions::unpack_chosen;
+use crate::slice::positions::{put_chosen, unpack_chosen};
 
 /// The slices in the order in which the bytes of the first are matched: AND can match the bytes of either.
 #[inline(always)]
@@ -131,4 +134,50 @@ pub(crate) fn count_both<const NUMBER: u8>(operation: Operation, a: Slice, b: Sl
         return combined_matches(operation, few, other).count_ones() as usize;
     }
     count_bits(&combined_bits(operation, a, b))
+}
+
+/// Writes the slice of the numbers that an operation on two slices gives. Returns how many these are, and the index after the last byte.
+///
+/// Up to 64 bytes after the end may change too.
+#[inline(always)]
+pub(crate) fn put_both(
+    operation: Operation,
+    a: Slice,
+    b: Slice,
+    out: &mut [u8],
+    at: usize,
+) -> (usize, usize)
+    requires room { at + 96 ≤ length out.old }
+    ensures count { result.0 ≡ length (combined 256 operation (numbers_at a.entry) (numbers_at b.entry)) }
+    ensures end { result.1 ≡ at + slice_len result.0 }
+    ensures written { take result.1 out.new ≡ take at out.old ++ slice (combined 256 operation (numbers_at a.entry) (numbers_at b.entry)) }
+{
+    if b.count == 0 && retains_left(operation) {
+        return (a.count, a.copy_bytes(out, at));
+    }
+    if a.count == 0 && retains_right(operation) {
+        return (b.count, b.copy_bytes(out, at));
+    }
+    if a.count < 32 && !retains_right(operation) {
+        let end = put_matches(operation, a, b, out, at);
+        return (end - at, end);
+    }
+    let bits = combined_bits(operation, a, b);
+    let count = count_bits(&bits);
+    (count, put_slice_at(&bits, count, out, at))
+}
+
+/// Writes the numbers that an operation gives as bytes, if the first slice has all of them. Returns the index after the last.
+#[inline(always)]
+fn put_matches(operation: Operation, a: Slice, b: Slice, out: &mut [u8], at: usize) -> usize
+    requires few { a.count < 32 }
+    requires operation { apply operation false true ≡ false }
+    requires room { at + 32 ≤ length out.old }
+    ensures few { result < at + 32 }
+    ensures end { result ≡ at + length (combined 256 operation (numbers_at a.entry) (numbers_at b.entry)) }
+    ensures values { take result out.new ≡ take at out.old ++ combined 256 operation (numbers_at a.entry) (numbers_at b.entry) }
+{
+    let matches = combined_matches(operation, a, b);
+    let bytes = bytes_from(a.slices, a.start).to_array();
+    put_chosen(&bytes, matches, out, at)
 }

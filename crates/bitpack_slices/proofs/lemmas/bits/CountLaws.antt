@@ -7,7 +7,7 @@ use Rattle.std.specs.Int.RustNames.{count_ones}
 use Rattle.std.specs.List.{range_with_len}
 use Rattle.std.specs.Bool.{Decides}
 use Rattle.std.proofs.lemmas.Bool.{cond_above, cond_below}
-use Rattle.std.proofs.lemmas.Nat.{mod-pow-add, ones-le, ones_cat, shr-shr, mod_below}
+use Rattle.std.proofs.lemmas.Nat.{mod-pow-add, ones_cat, shr-shr, mod_below}
 use Rattle.bitpack_slices.proofs.lemmas.slices.SliceLaws.{slice_few, slice_many, slice_some}
 use Rattle.bitpack_slices.proofs.lemmas.bits.OnesLaws.{number_little, ones_all, ones_rise}
 use Rattle.bitpack_slices.proofs.lemmas.bytes.Bytes.{EachByte}

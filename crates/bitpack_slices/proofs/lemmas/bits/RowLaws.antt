@@ -74,6 +74,16 @@ rows_right rows count tested = record {
   positions = λ byte none lt. begins-take (ones_from byte 0 8) (get_or rows byte none) (and_parts _ _ (first_row is_row rows byte none count lt tested)).0;
 }
 
+-- ---- some of what is written
+
+pub chunk_taken : (xs ys : List ℕ) (at n : ℕ) → n ≤ length ys → at + length ys ≤ length xs → take (at + n) (put_chunk at xs ys) ≡ take at xs ++ take n ys
+chunk_taken xs ys at n few room =
+    let before : length (take at xs) ≡ at = length-take-le at xs (omega arith) in
+    sym (take-take (at + n) (at + length ys) (put_chunk at xs ys) (omega arith))
+    ∙ ap (take (at + n)) (take_more_put_chunk at xs ys (at + length ys) refl room)
+    ∙ ap (λ i. take (i + n) (take at xs ++ ys)) (sym before)
+    ∙ take-append-add (take at xs) ys n
+
 -- ---- a row of eight, added to a number and written
 
 module _ (values row lanes ones : List ℕ) (next base top : ℕ) (same : lanes ≡ replicate 8 base) (long : length row ≡ 8) (room : next + 8 ≤ length values) (fits : base + top ≤ 2 ^ 32)
@@ -104,14 +114,7 @@ module _ (values row lanes ones : List ℕ) (next base top : ℕ) (same : lanes 
       count = length-take-le (length ones) sums (omega (arith, few, eight))
 
   row_whole : take (next + length ones) (put_chunk next values sums) ≡ take next values ++ map (λ i. base + i) ones
-  row_whole =
-      let n : ℕ = length ones in
-      let before : length (take next values) ≡ next = length-take-le next values (omega (arith, room)) in
-      sym (take-take (next + n) (next + 8) (put_chunk next values sums) (omega (arith, few)))
-      ∙ ap (take (next + n)) (take_more_put_chunk next values sums (next + 8) (omega (arith, eight)) (omega (arith, room)))
-      ∙ ap (λ i. take (i + n) (take next values ++ sums)) (sym before)
-      ∙ take-append-add (take next values) sums n
-      ∙ ap (λ xs. take next values ++ xs) front
+  row_whole = chunk_taken values sums next (length ones) (omega (arith, few, eight)) (omega (arith, room, eight)) ∙ ap (λ xs. take next values ++ xs) front
 
   pub row_written : (n : ℕ) → length ones ≡ n → take (next + n) (put_chunk next values sums) ≡ take next values ++ map (λ i. base + i) ones
   row_written n count = ap (λ (k : ℕ). take (next + k) (put_chunk next values sums)) (sym count) ∙ row_whole
@@ -216,21 +219,27 @@ rising_agree top xs f g rise same =
     let less : k < length xs = omega (arith, lt, length-map xs f) in
     get_or-map f xs k 0 0 less ∙ same (get_or xs k 0) (rising_top 0 top k xs rise less) ∙ sym (get_or-map g xs k 0 0 less))
 
+pub chosen_next : (i matches : ℕ) (bytes : List ℕ)
+    → map (λ j. get_or bytes j 0) (ones_from matches 0 (8 * (i + 1)))
+    ≡ map (λ j. get_or bytes j 0) (ones_from matches 0 (8 * i)) ++ map (λ j. get_or (chunk (8 * i) 8 bytes) j 0) (ones_from (bit_and (matches / 2 ^ (8 * i)) 255) 0 8)
+chosen_next i matches bytes =
+    let e : 8 * (i + 1) ≡ 8 * i + 8 = omega arith in
+    let g : ℕ → ℕ = λ j. get_or bytes j 0 in
+    let byte : List ℕ = ones_from (bit_and (matches / 2 ^ (8 * i)) 255) 0 8 in
+    let some : List ℕ = ones_from matches 0 (8 * i) in
+    ap (λ (n : ℕ). map g (ones_from matches 0 n)) e ∙ ap (map g) (byte_more matches (8 * i))
+    ∙ map-append g some (map (λ j. 8 * i + j) byte)
+    ∙ ap (λ (l : List ℕ). map g some ++ l) (map-map g (λ j. 8 * i + j) byte
+    ∙ rising_agree 8 byte (λ j. g (8 * i + j)) (λ j. get_or (chunk (8 * i) 8 bytes) j 0) (ones_rise (bit_and (matches / 2 ^ (8 * i)) 255) 0 8)
+    (λ j lt. sym (get_or-chunk (8 * i) 8 bytes j 0 lt)))
+
 pub chosen_more : (base i matches : ℕ) (bytes : List ℕ)
     → map (λ j. base + j) (map (λ j. get_or bytes j 0) (ones_from matches 0 (8 * (i + 1))))
     ≡ map (λ j. base + j) (map (λ j. get_or bytes j 0) (ones_from matches 0 (8 * i)))
     ++ map (λ j. base + j) (map (λ j. get_or (chunk (8 * i) 8 bytes) j 0) (ones_from (bit_and (matches / 2 ^ (8 * i)) 255) 0 8))
 chosen_more base i matches bytes =
-    let e : 8 * (i + 1) ≡ 8 * i + 8 = omega arith in
-    let g : ℕ → ℕ = λ j. get_or bytes j 0 in
-    let byte : List ℕ = ones_from (bit_and (matches / 2 ^ (8 * i)) 255) 0 8 in
-    let some : List ℕ = ones_from matches 0 (8 * i) in
-    ap (λ (n : ℕ). map (λ j. base + j) (map g (ones_from matches 0 n))) e ∙ ap (λ (l : List ℕ). map (λ j. base + j) (map g l)) (byte_more matches (8 * i))
-    ∙ ap (map (λ j. base + j)) (map-append g some (map (λ j. 8 * i + j) byte)
-    ∙ ap (λ (l : List ℕ). map g some ++ l) (map-map g (λ j. 8 * i + j) byte
-    ∙ rising_agree 8 byte (λ j. g (8 * i + j)) (λ j. get_or (chunk (8 * i) 8 bytes) j 0) (ones_rise (bit_and (matches / 2 ^ (8 * i)) 255) 0 8)
-    (λ j lt. sym (get_or-chunk (8 * i) 8 bytes j 0 lt))))
-    ∙ map-append (λ j. base + j) (map g some) (map (λ j. get_or (chunk (8 * i) 8 bytes) j 0) byte)
+    ap (map (λ j. base + j)) (chosen_next i matches bytes)
+    ∙ map-append (λ j. base + j) (map (λ j. get_or bytes j 0) (ones_from matches 0 (8 * i))) (map (λ j. get_or (chunk (8 * i) 8 bytes) j 0) (ones_from (bit_and (matches / 2 ^ (8 * i)) 255) 0 8))
 
 -- ---- a window that is written
 

@@ -4,7 +4,7 @@ use Rattle.std.specs.List.{filter, range_with_len}
 use Rattle.bitpack_slices.proofs.lemmas.bits.BitmapLaws.{those_few, those_none, those_raised, those_split}
 use Rattle.bitpack_slices.proofs.lemmas.bits.CombineLaws.{apply_none}
 use Rattle.bitpack_slices.proofs.lemmas.bodies.LoadLaws.{filtered_same}
-use Rattle.bitpack_slices.specs.Operations.{answer, apply, those}
+use Rattle.bitpack_slices.specs.Operations.{answer, apply, combined, those}
 use Rattle.bitpack_slices.specs.Reads.{has}
 use Rattle.bitpack_slices.specs.declared.operation.Operation.{Operation}
 
@@ -56,6 +56,13 @@ those_part n low size p q r room before own passed after =
 
 pub each : (operation : Operation) (p p' q q' : Bool) → p ≡ p' → q ≡ q' → apply operation p q ≡ apply operation p' q'
 each operation p p' q q' e f = ap (λ (b : Bool). apply operation b q) e ∙ ap (apply operation p') f
+
+-- numbers that two lists share are combined alike
+pub combined_has : (operation : Operation) (xs xs' ys ys' : List ℕ) → ((x : ℕ) → x < 65536 → has x xs ≡ has x xs') → ((x : ℕ) → x < 65536 → has x ys ≡ has x ys')
+    → combined 65536 operation xs ys ≡ combined 65536 operation xs' ys'
+combined_has operation xs xs' ys ys' left right =
+    those_same 65536 (λ x. apply operation (has x xs) (has x ys)) (λ x. apply operation (has x xs') (has x ys')) (λ x small.
+    each operation (has x xs) (has x xs') (has x ys) (has x ys') (left x small) (right x small))
 
 pub answer_few : (operation : Operation) (xs ys : List ℕ) → length (answer operation xs ys) ≤ 2 ^ 32
 answer_few operation xs ys = those_few (2 ^ 32) (λ x. apply operation (has x xs) (has x ys))

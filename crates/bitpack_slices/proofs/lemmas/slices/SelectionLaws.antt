@@ -1,18 +1,18 @@
 -- The numbers of a slice that are selected.
-use Rattle.std.proofs.Common.{take, ◌≡◌, ℕ, zero, suc, ◌+◌, ◌*◌, ◌/◌, ◌%◌, ◌^◌, ◌-◌, ◌<◌, ◌≤◌, Bool, true, false, ◌&&◌, not, eqb, ltb, List, [], ◌∷◌, ◌++◌, map, drop, length, refl, sym, ap, ◌∙◌, arith, cond, inl, inr, get_or, bit_and, eqb-true, append-nil, subst, w32}
+use Rattle.std.proofs.Common.{take, ◌≡◌, ℕ, zero, suc, ◌+◌, ◌*◌, ◌/◌, ◌%◌, ◌^◌, ◌-◌, ◌<◌, ◌≤◌, Bool, true, false, ◌&&◌, not, eqb, ltb, List, [], ◌∷◌, ◌++◌, map, drop, length, refl, sym, ap, ◌∙◌, arith, cond, inl, inr, get_or, bit_and, eqb-true, append-nil, length-drop, subst, w32}
 use Rattle.std.specs.Int.{bit_at}
 use Rattle.std.specs.List.{filter, range_with_len}
 use Rattle.std.proofs.Math.Bool.{and_comm}
 use Rattle.std.proofs.lemmas.Bool.{cases_lt, cond_below, le-ltb, lt-ltb, true≢false}
-use Rattle.std.proofs.lemmas.List.{drop_all, drop_more, get_or-drop, get_or-take}
+use Rattle.std.proofs.lemmas.List.{drop_all, drop_more, ext_get_or, get_or-drop, get_or-take, length-map, length-take-le}
 use Rattle.std.proofs.lemmas.Map.Views.{any-filter_same}
-use Rattle.std.proofs.lemmas.Nat.Bits.{bit_at-lt, bit_at_above, bit_at_not, bit_at_ones, bit_at_ones_above}
-use Rattle.std.proofs.lemmas.Nat.{one_shl}
+use Rattle.std.proofs.lemmas.Nat.Bits.{bit_at-lt, bit_at-zero, bit_at_above, bit_at_not, bit_at_ones, bit_at_ones_above}
+use Rattle.std.proofs.lemmas.Nat.{one_shl, shr-shr}
 use Rattle.bitpack_slices.proofs.lemmas.bits.BitmapLaws.{those_none, those_split}
 use Rattle.bitpack_slices.proofs.lemmas.bits.CombineLaws.{IsLeftOut, apply_none, not_of, word_and}
 use Rattle.bitpack_slices.proofs.lemmas.bits.CountLaws.{few_numbers}
 use Rattle.bitpack_slices.proofs.lemmas.bodies.LoadLaws.{filtered_same, has_those, none_there, those_are, those_rise}
-use Rattle.bitpack_slices.proofs.lemmas.bits.OnesLaws.{ones_all}
+use Rattle.bitpack_slices.proofs.lemmas.bits.OnesLaws.{ones_all, ones_few}
 use Rattle.bitpack_slices.proofs.lemmas.bits.RaisedLaws.{rise_all}
 use Rattle.bitpack_slices.proofs.lemmas.bits.RowLaws.{rising_agree}
 use Rattle.bitpack_slices.proofs.lemmas.slices.SliceLaws.{bits_room}
@@ -39,6 +39,12 @@ ones_cut x c n h none =
     ap (λ (k : ℕ). filter p (range_with_len 0 k)) e ∙ those_split p 0 c (n - c)
     ∙ ap (λ (k : ℕ). filter p (range_with_len 0 c) ++ filter p (range_with_len k (n - c))) start
     ∙ ap (λ (l : List ℕ). filter p (range_with_len 0 c) ++ l) (those_none p c (n - c) (λ i a b. none i a (omega arith))) ∙ append-nil (filter p (range_with_len 0 c))
+
+-- no bit is left
+pub ones_end : (x c n : ℕ) → x / 2 ^ c ≡ 0 → c ≤ n → ones_from x 0 n ≡ ones_from x 0 c
+ones_end x c n none le = ones_cut x c n le (λ i a b.
+    let e : c + (i - c) ≡ i = omega arith in
+    ap (λ (m : ℕ). eqb m 1) (ap (bit_at x) (sym e) ∙ ap (λ (m : ℕ). m % 2) (sym (shr-shr x c (i - c))) ∙ ap (λ (m : ℕ). bit_at m (i - c)) none ∙ bit_at-zero (i - c)))
 
 pub ones_below : (x c n : ℕ) → x < 2 ^ n → c ≤ n → ((i : ℕ) → c ≤ i → i < n → eqb (bit_at x i) 1 ≡ false) → x < 2 ^ c
 ones_below x c n small h none =
@@ -88,7 +94,7 @@ matched_pass matches bytes P few is =
     is i (omega arith) ∙ and_true (ltb i (length bytes)) (P (get_or bytes i 0)) (lt-ltb i (length bytes) (omega arith))))
     ∙ passed_from P bytes 0 (length bytes) (omega arith)
 
-has_passed : (P : ℕ → Bool) (x : ℕ) (xs : List ℕ) → has x (filter P xs) ≡ (has x xs && P x)
+pub has_passed : (P : ℕ → Bool) (x : ℕ) (xs : List ℕ) → has x (filter P xs) ≡ (has x xs && P x)
 has_passed P x xs = any-filter_same (λ y. eqb y x) P (P x) (λ y e. ap P (eqb-true y x e)) xs ∙ and_comm (P x) (has x xs)
 
 -- the bytes whose bit is 1 are the numbers of the slice that pass
@@ -276,6 +282,24 @@ matched_first slices start count matches bytes there few small loaded =
     let own : List ℕ = take (slice_len count) (drop start slices) in
     let is = few_there slices start count own there few refl in
     matched_same matches bytes own is.few small (first_bytes slices start count bytes there few loaded)
+
+pub bytes_same : (slices bytes : List ℕ) (start n : ℕ) → n ≤ 32 → length bytes ≡ 32 → start + n ≤ length slices
+    → ((i : ℕ) → i < 32 → start + i < length slices → get_or bytes i 0 ≡ get_or slices (start + i) 0) → take n bytes ≡ take n (drop start slices)
+bytes_same slices bytes start n few size room loaded =
+    let long : length (take n bytes) ≡ n = length-take-le n bytes (omega arith) in
+    let left = length-drop start slices in
+    let own : length (take n (drop start slices)) ≡ n = length-take-le n (drop start slices) (omega arith) in
+    ext_get_or 0 _ _ (long ∙ sym own) (λ k lt.
+    let less : k < n = omega (arith, lt, long) in
+    get_or-take n bytes k 0 less ∙ loaded k (omega (arith, less, few)) (omega (arith, less, room))
+    ∙ sym (get_or-take n (drop start slices) k 0 less ∙ get_or-drop start slices k 0))
+
+pub matched_few : (matches : ℕ) (bytes : List ℕ) → length bytes < 32 → matches < 2 ^ length bytes → length (matched matches bytes) < 32
+matched_few matches bytes few small =
+    let size = length-map (ones_from matches 0 32) (λ i. get_or bytes i 0) in
+    let own = ap length (ones_longer matches (length bytes) 32 small (omega arith)) in
+    let most = ones_few matches 0 (length bytes) in
+    omega arith
 
 -- ---- what is written of one high byte
 

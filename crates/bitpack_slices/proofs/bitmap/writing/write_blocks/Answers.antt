@@ -17,11 +17,11 @@ put_slices-len-requires-clause-highs c =
 pub put_slices-len-requires-clause-some : goal.put_slices-len-requires-clause-some
 put_slices-len-requires-clause-some c =
     let highs : List ℕ = those 256 (has_bit c.high_bits-bits.result) in
-    subst (HaveSome c.args.words.now) (sym (c.unpack_bits-count.ensures.values ∙ map_zero highs)) (highs_some c.args.words.now c.high_bits-bits.result c.high_bits-bits.ensures)
+    subst (HaveSome (has_bit c.args.words.now)) (sym (c.unpack_bits-count.ensures.values ∙ map_zero highs)) (highs_some (has_bit c.args.words.now) (has_bit c.high_bits-bits.result) c.high_bits-bits.ensures)
 
 pub overflow_sub-head : goal.overflow_sub-head
 overflow_sub-head c =
-    let some = some_highs c.args.words.now c.high_bits-bits.result c.high_bits-bits.ensures c.requires.some in
+    let some = some_highs (has_bit c.args.words.now) (has_bit c.high_bits-bits.result) c.high_bits-bits.ensures c.requires.some in
     let count = c.unpack_bits-count.ensures.end in
     omega arith
 
@@ -29,7 +29,7 @@ pub returns-clause-written : goal.returns-clause-written
 returns-clause-written c =
     let highs : List ℕ = those 256 (has_bit c.high_bits-bits.result) in
     let is : take c.unpack_bits-count.result c.unpack_bits-count.new.out ≡ highs = c.unpack_bits-count.ensures.values ∙ map_zero highs in
-    blocks_written c.args.words.now c.high_bits-bits.result c.split_at_mut-head.result.0.now c.put_slice.new.out c.put_slices-len.new.counts c.put_slices-len.new.slices
+    blocks_written (has_bit c.args.words.now) (has_bit c.high_bits-bits.result) c.split_at_mut-head.result.0.now c.put_slice.new.out c.put_slices-len.new.counts c.put_slices-len.new.slices
     c.unpack_bits-count.result c.byte_len-size.result c.put_slices-len.result c.high_bits-bits.ensures (let end = c.unpack_bits-count.ensures.end in omega arith) c.byte_len-size.ensures
     c.split_at_mut-head.ensures.front_len c.put_slice.ensures
     (c.put_slices-len.ensures.counts ∙ ap (map (λ high. length (high_lows c.args.words.now high) - 1)) is)
