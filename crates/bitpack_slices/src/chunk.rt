@@ -16,7 +16,7 @@ pub mod search;
 pub mod testing;
 pub mod writing;
 
-ghost use Rattle.std.specs.Prelude.{◌≡◌, ℕ, ◌+◌, ◌^◌, ◌<◌, ◌≤◌, drop, length, map, slice_index, take};
+ghost use Rattle.std.specs.Prelude.{◌≡◌, ℕ, ◌+◌, ◌^◌, ◌<◌, ◌≤◌, drop, length, map, slice_get, slice_index, take};
 ghost use Rattle.bitpack_slices.specs.Bitmaps.{Represents, has_bit, has_high};
 ghost use Rattle.bitpack_slices.specs.Bodies.{IsRising};
 ghost use Rattle.bitpack_slices.specs.Lows.{AreLows, lows};
@@ -27,7 +27,7 @@ use crate::blocks::loading::load_blocks;
 use crate::chunk::parts::Parts;
 use crate::chunk::reading::unpack_numbers_from;
 use crate::chunk::runs::Runs;
-use crate::chunk::search::{in_numbers, number_at, rank_in_numbers};
+use crate::chunk::search::{in_numbers, number_at, rank_in_numbers, seek_in_numbers};
 
 /// The numbers of a chunk: the low 16 bits of its ids.
 #[derive(Clone, Copy)]
@@ -64,6 +64,20 @@ impl<'a> Lows<'a> {
             Lows::Numbers(body) => rank_in_numbers(body, number),
             Lows::Blocks(body) => Parts::new(body).rank(number),
             Lows::Runs(runs) => runs.rank(number),
+        }
+    }
+
+    /// How many are below a number, and the first that is not, if there is one.
+    #[inline(always)]
+    pub fn seek(self, number: u16) -> (usize, Option<u16>)
+        requires { AreLows self }
+        ensures rank { result.0 ≡ rank number (lows self.entry) }
+        ensures first { result.1 ≡ slice_get (lows self.entry) result.0 }
+    {
+        match self {
+            Lows::Numbers(body) => seek_in_numbers(body, number),
+            Lows::Blocks(body) => Parts::new(body).seek(number),
+            Lows::Runs(runs) => runs.seek(number),
         }
     }
 

@@ -23,5 +23,6 @@ pub mod RunBodies
 pub mod RunBounds
 pub mod RunLaws
 pub mod SetLaws
+pub mod SoughtRuns
 pub mod TestLaws
 pub mod WorkedBounds

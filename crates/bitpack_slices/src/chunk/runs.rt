@@ -36,7 +36,7 @@ pub struct Runs<'a> {
 }
 
 impl<'a> Runs<'a> {
-    ghost use Rattle.std.specs.Prelude.{◌+◌, ◌-◌, ◌*◌, ◌/◌, ◌^◌, ◌<◌, ◌++◌, ◌||◌, drop, map, slice_index, take, true};
+    ghost use Rattle.std.specs.Prelude.{◌+◌, ◌-◌, ◌*◌, ◌/◌, ◌^◌, ◌<◌, ◌++◌, ◌||◌, drop, map, slice_get, slice_index, take, true};
     ghost use Rattle.std.specs.List.{range_with_len};
     ghost use Rattle.bitpack_slices.specs.Bitmaps.{Represents, has_bit, has_high};
     ghost use Rattle.bitpack_slices.specs.Slices.{IsBlocks, block_numbers};
@@ -112,6 +112,23 @@ impl<'a> Runs<'a> {
             below += end.min(number as usize) - begin.min(number as usize);
         }
         below
+    }
+
+    /// How many numbers are below `number`, and the first that is not, if there is one.
+    pub(crate) fn seek(self, number: u16) -> (usize, Option<u16>)
+        ensures rank { result.0 ≡ rank number (runs_from 0 self.entry.bounds.now) }
+        ensures first { result.1 ≡ slice_get (runs_from 0 self.entry.bounds.now) result.0 }
+    {
+        let mut below = 0;
+        for index in 0..self.count() {
+            let (begin, end) = self.run(index);
+            if (number as usize) < end {
+                let first = begin.max(number as usize);
+                return (below + first - begin, Some(first as u16));
+            }
+            below += end - begin;
+        }
+        (below, None)
     }
 
     /// The run that has the number at a position, and the position of the number in it.

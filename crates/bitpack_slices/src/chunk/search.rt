@@ -1,7 +1,7 @@
 //! Looks numbers up in bodies.
 //! FORMAT.md, "Chunks".
 
-ghost use Rattle.std.specs.Prelude.{◌≡◌, ◌+◌, ◌*◌, ◌/◌, ◌^◌, ◌<◌, ◌≤◌, ◌++◌, drop, length, map, slice_index, take};
+ghost use Rattle.std.specs.Prelude.{◌≡◌, ◌+◌, ◌*◌, ◌/◌, ◌^◌, ◌<◌, ◌≤◌, ◌++◌, drop, length, map, slice_get, slice_index, take};
 ghost use Rattle.bitpack_slices.specs.Reads.{has, rank};
 ghost use Rattle.bitpack_slices.specs.Bodies.{IsRising};
 ghost use Rattle.bitpack_slices.specs.Selections.{numbers_at};
@@ -10,7 +10,7 @@ ghost use Rattle.bitpack_slices.specs.Slices.{numbers_in, pairs_of, slice_len, s
 use crate::chunk::parts::Parts;
 use crate::slice::search::{in_slice, rank_in_slice, select_in_slice};
 use crate::slice::testing::count_numbers;
-use crate::slice::{Slice, size_of};
+use crate::slice::{Slice, byte_len, size_of};
 
 impl<'a> Parts<'a> {
     ghost use Rattle.bitpack_slices.specs.Parts.{numbers_in_parts};
@@ -43,6 +43,43 @@ impl<'a> Parts<'a> {
         before + rank_in_slice(slice.count, slice.bytes(), (number % 256) as u8)
     }
 
+    /// How many numbers are below `number`, and the first that is not, if there is one.
+    #[inline(always)]
+    pub(crate) fn seek(self, number: u16) -> (usize, Option<u16>)
+        ensures rank { result.0 ≡ rank number (numbers_in_parts self.entry) }
+        ensures first { result.1 ≡ slice_get (numbers_in_parts self.entry) result.0 }
+    {
+        let high = (number / 256) as u8;
+        let index = rank_in_slice(self.counts.len(), self.highs, high);
+        let before = count_numbers(&self.counts[..index]);
+        if !in_slice(self.counts.len(), self.highs, high) {
+            return (before, self.first_at(index, self.offset_of(index)));
+        }
+        let slice = self.slice_at(index);
+        let left = rank_in_slice(slice.count, slice.bytes(), (number % 256) as u8);
+        if left >= slice.count {
+            let end = slice.start + byte_len(slice.count);
+            return (before + left, self.first_at(index + 1, end));
+        }
+        let low = select_in_slice(slice.count, slice.bytes(), left) as u16;
+        (before + left, Some(256 * high as u16 + low))
+    }
+
+    /// The first number of the slice with this index, which begins at `offset`, if there is one.
+    #[inline(always)]
+    fn first_at(self, index: usize, offset: usize) -> Option<u16>
+        requires within { index ≤ length self.counts.now }
+        requires offset { offset ≡ slices_len (take index self.counts.now) }
+        ensures { result ≡ slice_get (numbers_in_parts self.entry) (numbers_in (take index self.entry.counts.now)) }
+    {
+        if index >= self.counts.len() {
+            return None;
+        }
+        let slice = self.slice_from(index, offset);
+        let high = select_in_slice(self.counts.len(), self.highs, index) as u16;
+        Some(256 * high + select_in_slice(slice.count, slice.bytes(), 0) as u16)
+    }
+
     /// The number at this position.
     #[inline(always)]
     pub(crate) fn select(self, position: usize) -> u16
@@ -60,20 +97,34 @@ impl<'a> Parts<'a> {
     fn slice_at(self, index: usize) -> Slice<'a>
         requires { index < length self.counts.now }
         ensures count { result.count ≡ slice_index self.entry.counts.now index + 1 }
+        ensures start { result.start ≡ slices_len (take index self.entry.counts.now) }
         ensures numbers { numbers_at result ≡ slice_numbers (slice_index self.entry.counts.now index + 1)
             (take (slice_len (slice_index self.entry.counts.now index + 1)) (drop (slices_len (take index self.entry.counts.now)) self.entry.slices.now)) }
     {
+        self.slice_from(index, self.offset_of(index))
+    }
+
+    /// The slice with this index, which begins at `offset`.
+    #[inline(always)]
+    fn slice_from(self, index: usize, offset: usize) -> Slice<'a>
+        requires within { index < length self.counts.now }
+        requires offset { offset ≡ slices_len (take index self.counts.now) }
+        ensures count { result.count ≡ slice_index self.entry.counts.now index + 1 }
+        ensures start { result.start ≡ offset }
+        ensures numbers { numbers_at result ≡ slice_numbers (slice_index self.entry.counts.now index + 1)
+            (take (slice_len (slice_index self.entry.counts.now index + 1)) (drop offset self.entry.slices.now)) }
+    {
         Slice {
             slices: self.slices,
-            start: self.offset_of(index),
+            start: offset,
             count: self.counts[index] as usize + 1,
         }
     }
 
-    /// Where the slice with this index begins. If each slice is bits, no count is read.
+    /// Where the slice with this index begins, or the slices end. If each slice is bits, no count is read.
     #[inline(always)]
     fn offset_of(self, index: usize) -> usize
-        requires { index < length self.counts.now }
+        requires { index ≤ length self.counts.now }
         ensures { result ≡ slices_len (take index self.entry.counts.now) }
     {
         if self.slices.len() == 32 * self.counts.len() {
@@ -139,6 +190,20 @@ pub fn rank_in_numbers(body: &[u8], number: u16) -> usize
         }
     }
     low
+}
+
+/// How many numbers of a body of numbers are below this one, and the first that is not, if there is one.
+pub(crate) fn seek_in_numbers(body: &[u8], number: u16) -> (usize, Option<u16>)
+    requires { IsRising 0 65536 (pairs_of body.now) }
+    ensures rank { result.0 ≡ rank number (pairs_of body.now) }
+    ensures first { result.1 ≡ slice_get (pairs_of body.now) result.0 }
+{
+    let position = rank_in_numbers(body, number);
+    if position < body.len() / 2 {
+        (position, Some(number_at(body, position)))
+    } else {
+        (position, None)
+    }
 }
 
 /// Whether a body of numbers has this one.

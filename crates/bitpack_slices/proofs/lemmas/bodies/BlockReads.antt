@@ -5,7 +5,7 @@ use Rattle.bitpack_slices.proofs.lemmas.bodies.CutLaws.{counts_len}
 use Rattle.bitpack_slices.proofs.lemmas.bodies.JoinLaws.{build, build_are, build_highs, numbers_built}
 use Rattle.bitpack_slices.proofs.lemmas.numbers.JoinReads.{none, rank_join, rank_join_not}
 use Rattle.bitpack_slices.proofs.lemmas.bodies.LongLaws.{counts, keys, total}
-use Rattle.bitpack_slices.proofs.lemmas.bodies.ReadLaws.{slice_at}
+use Rattle.bitpack_slices.proofs.lemmas.bodies.ReadLaws.{rank_le, rank_less, slice_at}
 use Rattle.bitpack_slices.proofs.lemmas.bytes.Bytes.{EachByte}
 use Rattle.bitpack_slices.specs.Reads.{has, rank}
 use Rattle.bitpack_slices.specs.Bodies.{IsRising}
@@ -48,6 +48,19 @@ rank_there x i hs cs bytes size r are lt e h =
     ∙ rank_join 256 x 0 256 i (build hs cs bytes) (omega arith) (build_are 0 hs cs bytes size r are) (e ∙ ap (rank (x / 256)) (sym highs)) (ap (has (x / 256)) highs ∙ h)
     ∙ ap (λ (n : ℕ). n + rank (x % 256) (get_or (build hs cs bytes) i none).1) (build_total i hs cs bytes size are)
     ∙ ap (λ (l : List ℕ). numbers_in (take i cs) + rank (x % 256) l) (build_at i hs cs bytes size lt)
+
+-- the position of the high byte is among the counts, and that of one that occurs is of a slice
+pub at_most : (i x : ℕ) (hs counts : List ℕ) → i ≡ rank x hs → length hs ≡ length counts → i ≤ length counts
+at_most i x hs counts e size = let most = rank_le x hs in omega arith
+
+pub below_counts : (i x : ℕ) (hs counts : List ℕ) → i ≡ rank x hs → has x hs ≡ true → length hs ≡ length counts → i < length counts
+below_counts i x hs counts e h size = let less = rank_less x hs h in omega arith
+
+pub ranked : (x i before left : ℕ) (hs cs bytes : List ℕ) → length hs ≡ length cs → IsRising 0 256 hs → AreSlices cs bytes → i ≡ rank (x / 256) hs → has (x / 256) hs ≡ true
+    → before ≡ numbers_in (take i cs) → left ≡ rank (x % 256) (slice_at i cs bytes) → before + left ≡ rank x (numbers_of hs cs bytes)
+ranked x i before left hs cs bytes size r are e h b l =
+    let there = rank_there x i hs cs bytes size r are (below_counts i (x / 256) hs cs e h size) e h in
+    ap (λ (n : ℕ). n + left) b ∙ ap (λ (n : ℕ). numbers_in (take i cs) + n) l ∙ sym there
 
 pub numbers_few : (cs : List ℕ) → EachByte cs → numbers_in cs ≤ 256 * length cs
 unfolding numbers_in

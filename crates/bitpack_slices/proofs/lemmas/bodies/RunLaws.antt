@@ -235,7 +235,7 @@ drop_run begin end left rest h =
     ∙ ap (λ (l : List ℕ). l ++ rest) (drop_range begin (end - begin) left h)
 
 -- all of a run are passed
-drop_past : (xs ys : List ℕ) (n left : ℕ) → length xs ≡ n → n ≤ left → drop left (xs ++ ys) ≡ drop (left - n) ys
+pub drop_past : (xs ys : List ℕ) (n left : ℕ) → length xs ≡ n → n ≤ left → drop left (xs ++ ys) ≡ drop (left - n) ys
 drop_past xs ys n left e h =
     let same : left ≡ length xs + (left - n) = omega arith in
     ap (λ (k : ℕ). drop k (xs ++ ys)) same ∙ drop-append-add xs ys (left - n)

@@ -1,11 +1,12 @@
 -- Numbers by their positions.
-use Rattle.std.proofs.Common.{◌≡◌, ℕ, zero, suc, ◌+◌, ◌-◌, ◌*◌, ◌<◌, ◌≤◌, List, [], ◌∷◌, ◌++◌, map, take, drop, length, get_or, refl, sym, ap, ◌∙◌, arith, inl, inr, length-append}
+use Rattle.std.proofs.Common.{◌≡◌, ℕ, zero, suc, ◌+◌, ◌-◌, ◌*◌, ◌<◌, ◌≤◌, List, [], ◌∷◌, ◌++◌, map, take, drop, length, get_or, refl, sym, ap, ◌∙◌, arith, inl, inr, length-append, None, Some}
 use Rattle.std.specs.Int.RustNames.{count_ones}
-use Rattle.std.specs.List.{drop-map}
+use Rattle.std.specs.List.{drop-map, slice_get}
 use Rattle.std.proofs.Math.Seq.{drop-append-add}
 use Rattle.std.proofs.lemmas.Bool.{cases_lt}
-use Rattle.std.proofs.lemmas.List.{drop-append-le, drop_more, get_or-append-add, get_or-drop, get_or-map, get_or_append_left, length-drop, length-map, take_all, take_more}
-use Rattle.bitpack_slices.proofs.lemmas.bodies.BlockReads.{build_at, build_total, slice_there}
+use Rattle.std.proofs.lemmas.Option.{slice_get-get_or, slice_get_past}
+use Rattle.std.proofs.lemmas.List.{drop-append-le, drop_more, get_or-append-add, get_or-drop, get_or-map, get_or_append_left, length-drop, length-map, take-append-drop, take_all, take_more}
+use Rattle.bitpack_slices.proofs.lemmas.bodies.BlockReads.{build_at, build_total, numbers_counted, slice_there}
 use Rattle.bitpack_slices.proofs.lemmas.bodies.JoinLaws.{build, build_highs, join, numbers_built}
 use Rattle.bitpack_slices.proofs.lemmas.bits.CountLaws.{ones_counted}
 use Rattle.bitpack_slices.proofs.lemmas.bytes.DecodeLaws.{bytes_dropped, number_bits, number_split}
@@ -99,6 +100,28 @@ numbers_none cs = refl
 
 pub numbers_all : (cs : List ℕ) (i : ℕ) → length cs ≤ i → numbers_in (take i cs) ≡ numbers_in cs
 numbers_all cs i h = ap numbers_in (take_all i cs h)
+
+pub numbers_to : (cs : List ℕ) (i : ℕ) → i < length cs → numbers_in (take i cs) + (get_or cs i 0 + 1) ≤ numbers_in cs
+numbers_to cs i h =
+    let more = numbers_more cs i h in
+    let all = ap numbers_in (take-append-drop (i + 1) cs) in
+    let both = numbers_append (take (i + 1) cs) (drop (i + 1) cs) in
+    omega arith
+
+-- the number at a position of a slice is there
+pub slice_found : (n i left position : ℕ) (hs cs bytes : List ℕ) → length hs ≡ length cs → AreSlices cs bytes → i < length cs → left ≤ get_or cs i 0
+    → numbers_in (take i cs) + left ≡ position → n ≡ 256 * get_or hs i 0 + get_or (slice_at i cs bytes) left 0 → Some n ≡ slice_get (numbers_of hs cs bytes) position
+slice_found n i left position hs cs bytes size are lt few e is =
+    let to = numbers_to cs i lt in
+    let all = numbers_counted hs cs bytes size are in
+    ap (λ (k : ℕ). Some k) (is ∙ sym (slice_select i left position hs cs bytes size are lt few e)) ∙ sym (slice_get-get_or (numbers_of hs cs bytes) position 0 (omega arith))
+
+-- after the last slice there is none
+pub none_found : (i : ℕ) (hs cs bytes : List ℕ) → length hs ≡ length cs → AreSlices cs bytes → length cs ≤ i → None ≡ slice_get (numbers_of hs cs bytes) (numbers_in (take i cs))
+none_found i hs cs bytes size are past =
+    let all = numbers_counted hs cs bytes size are in
+    let to = numbers_all cs i past in
+    sym (slice_get_past (numbers_of hs cs bytes) (numbers_in (take i cs)) (omega arith))
 
 -- ---- bits
 

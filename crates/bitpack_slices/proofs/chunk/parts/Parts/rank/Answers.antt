@@ -1,21 +1,14 @@
 -- The numbers of the slices before that of the high byte, and those of its own.
-use Rattle.std.proofs.Common.{◌≡◌, ◌∙◌, ◌+◌, ◌/◌, ◌%◌, ◌<◌, ◌≤◌, ℕ, List, ap, sym, arith, length, take}
+use Rattle.std.proofs.Common.{◌∙◌, ◌/◌, ◌%◌, ℕ, List, ap, sym, arith, length, take}
 use Rattle.std.proofs.lemmas.List.{length-take-le}
-use Rattle.bitpack_slices.proofs.lemmas.bodies.BlockReads.{numbers_few, rank_not_there, rank_there}
+use Rattle.bitpack_slices.proofs.lemmas.bodies.BlockReads.{at_most, below_counts, numbers_few, rank_not_there, ranked}
 use Rattle.bitpack_slices.proofs.lemmas.bits.CountLaws.{bytes_are}
-use Rattle.bitpack_slices.proofs.lemmas.bodies.ReadLaws.{rank_le, rank_less}
+use Rattle.bitpack_slices.proofs.lemmas.bodies.ReadLaws.{rank_le}
 use Rattle.bitpack_slices.proofs.lemmas.bodies.TestLaws.{bytes_taken}
 use Rattle.bitpack_slices.proofs.chunk.parts.Parts.rank.Goals as goal
 use Rattle.bitpack_slices.specs.Reads.{rank}
 use Rattle.bitpack_slices.specs.Selections.{numbers_at}
-use Rattle.bitpack_slices.specs.Slices.{numbers_in, slice_numbers}
-
--- the position of the high byte is among the counts
-at_most : (i x : ℕ) (hs counts : List ℕ) → i ≡ rank x hs → length hs ≡ length counts → i ≤ length counts
-at_most i x hs counts e size = let most = rank_le x hs in omega arith
-
-below_counts : (i x : ℕ) (hs counts : List ℕ) → i ≡ rank x hs → rank x hs < length hs → length hs ≡ length counts → i < length counts
-below_counts i x hs counts e less size = omega arith
+use Rattle.bitpack_slices.specs.Slices.{slice_numbers}
 
 pub slice_bounds-count_numbers-end : goal.slice_bounds-count_numbers-end
 slice_bounds-count_numbers-end c =
@@ -31,9 +24,8 @@ returns-then-not-in_slice c =
 
 pub slice_at-slice-requires : goal.slice_at-slice-requires
 slice_at-slice-requires c =
-    let few = rank_less (c.args.number / 256) (slice_numbers (length c.args.self.counts.now) c.args.self.highs.now) (sym c.in_slice.ensures ∙ c.if-not-in_slice.false) in
-    let size = c.args.self.occur.count_is in
-    omega (arith, c.rank_in_slice-index.ensures)
+    below_counts c.rank_in_slice-index.result (c.args.number / 256) (slice_numbers (length c.args.self.counts.now) c.args.self.highs.now) c.args.self.counts.now c.rank_in_slice-index.ensures
+    (sym c.in_slice.ensures ∙ c.if-not-in_slice.false) c.args.self.occur.count_is
 
 pub overflow_add-result : goal.overflow_add-result
 overflow_add-result c =
@@ -52,12 +44,7 @@ overflow_add-result c =
 
 pub returns : goal.returns
 returns c =
-    let hs : List ℕ = slice_numbers (length c.args.self.counts.now) c.args.self.highs.now in
-    let index : ℕ = c.rank_in_slice-index.result in
-    let counts : List ℕ = c.args.self.counts.now in
-    let lt = (let small = rank_less (c.args.number / 256) hs (sym c.in_slice.ensures ∙ c.if-not-in_slice.false) in let size = c.args.self.occur.count_is in below_counts index (c.args.number / 256) hs counts c.rank_in_slice-index.ensures small size) in
     let slice = c.slice_at-slice.result in
     let same = ap (λ (l : List ℕ). rank (c.args.number % 256) (slice_numbers slice.count l)) c.bytes.ensures ∙ ap (rank (c.args.number % 256)) c.slice_at-slice.ensures.numbers in
-    ap (λ (n : ℕ). n + c.rank_in_slice.result) c.count_numbers-before.ensures
-    ∙ ap (λ (n : ℕ). numbers_in (take index counts) + n) (c.rank_in_slice.ensures ∙ same)
-    ∙ sym (rank_there c.args.number index hs counts c.args.self.slices.now c.args.self.occur.count_is c.args.self.occur.rising c.args.self.are lt c.rank_in_slice-index.ensures (sym c.in_slice.ensures ∙ c.if-not-in_slice.false))
+    ranked c.args.number c.rank_in_slice-index.result c.count_numbers-before.result c.rank_in_slice.result (slice_numbers (length c.args.self.counts.now) c.args.self.highs.now) c.args.self.counts.now c.args.self.slices.now
+    c.args.self.occur.count_is c.args.self.occur.rising c.args.self.are c.rank_in_slice-index.ensures (sym c.in_slice.ensures ∙ c.if-not-in_slice.false) c.count_numbers-before.ensures (c.rank_in_slice.ensures ∙ same)
