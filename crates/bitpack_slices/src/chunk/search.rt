@@ -134,6 +134,29 @@ impl<'a> Parts<'a> {
     }
 }
 
+/// How many counts are added up at once.
+const STEP: usize = 16;
+
+/// A slice that is not after the one with the number at a position, and how many numbers are from it to there. By steps, as long as each is full and
+/// before the number. Each count less 1 is given.
+fn step_of(counts: &[u8], position: usize) -> (usize, usize)
+    requires { position < numbers_in counts.now }
+    ensures slice { result.0 < length counts.now }
+    ensures position { numbers_in (take result.0 counts.now) + result.1 ≡ position }
+{
+    let mut index = 0;
+    let mut left = position;
+    while counts.len() - index >= STEP {
+        let numbers = count_numbers(&counts[index..index + STEP]);
+        if left < numbers {
+            return (index, left);
+        }
+        left -= numbers;
+        index += STEP;
+    }
+    (index, left)
+}
+
 /// The slice that has the number at a position, and the position of the number in it. Each count less 1 is given.
 pub(crate) fn slice_of(counts: &[u8], position: usize) -> (usize, usize)
     requires { position < numbers_in counts.now }
@@ -141,8 +164,7 @@ pub(crate) fn slice_of(counts: &[u8], position: usize) -> (usize, usize)
     ensures own { result.1 ≤ slice_index counts.now result.0 }
     ensures position { numbers_in (take result.0 counts.now) + result.1 ≡ position }
 {
-    let mut index = 0;
-    let mut left = position;
+    let (mut index, mut left) = step_of(counts, position);
     while left > counts[index] as usize {
         left -= counts[index] as usize + 1;
         index += 1;

@@ -87,6 +87,7 @@ fn count_in_words(bytes: &[u8]) -> usize
 }
 
 /// How many numbers slices have; each count less 1 is given.
+#[inline(always)]
 pub(crate) fn count_numbers(counts: &[u8]) -> usize
     requires { length counts.now ≤ 256 }
     ensures { result ≡ numbers_in counts.now }

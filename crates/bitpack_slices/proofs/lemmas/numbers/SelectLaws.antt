@@ -1,5 +1,5 @@
 -- Numbers by their positions.
-use Rattle.std.proofs.Common.{◌≡◌, ℕ, zero, suc, ◌+◌, ◌-◌, ◌*◌, ◌<◌, ◌≤◌, List, [], ◌∷◌, ◌++◌, map, take, drop, length, get_or, refl, sym, ap, ◌∙◌, arith, inl, inr, length-append, None, Some}
+use Rattle.std.proofs.Common.{◌≡◌, ℕ, zero, suc, ◌+◌, ◌-◌, ◌*◌, ◌<◌, ◌≤◌, List, [], ◌∷◌, ◌++◌, map, take, drop, length, get_or, refl, sym, ap, ◌∙◌, arith, inl, inr, length-append, take-add, None, Some}
 use Rattle.std.specs.Int.RustNames.{count_ones}
 use Rattle.std.specs.List.{drop-map, slice_get}
 use Rattle.std.proofs.Math.Seq.{drop-append-add}
@@ -93,6 +93,9 @@ numbers_more cs i h =
     let a = ap numbers_in (take_more cs i 0 h) in
     let b = numbers_append (take i cs) (get_or cs i 0 ∷ []) in
     omega arith
+
+pub numbers_step : (cs : List ℕ) (i n : ℕ) → numbers_in (take (i + n) cs) ≡ numbers_in (take i cs) + numbers_in (take n (drop i cs))
+numbers_step cs i n = ap numbers_in (take-add i n cs) ∙ numbers_append (take i cs) (take n (drop i cs))
 
 pub numbers_none : (cs : List ℕ) → numbers_in (take 0 cs) ≡ 0
 unfolding numbers_in

@@ -1,13 +1,8 @@
 -- The numbers of one slice more are passed.
 use Rattle.std.proofs.Common.{◌≡◌, ◌+◌, ◌-◌, arith, get_or, take}
-use Rattle.bitpack_slices.proofs.lemmas.numbers.SelectLaws.{numbers_more, numbers_none, slice_within}
+use Rattle.bitpack_slices.proofs.lemmas.numbers.SelectLaws.{numbers_more, slice_within}
 use Rattle.bitpack_slices.proofs.chunk.search.slice_of.Goals as goal
 use Rattle.bitpack_slices.specs.Slices.{numbers_in}
-
-pub loop-index-init : goal.loop-index-init
-loop-index-init c =
-    let none = numbers_none c.args.counts.now in
-    record { within = slice_within c.args.counts.now 0 c.args.position c.args.position (omega arith) c.requires; passed = omega arith }
 
 pub loop-index-preserved : goal.loop-index-preserved
 loop-index-preserved c =
