@@ -6,7 +6,7 @@
 //! 6 | n, a varint | n ids of four bytes, increasing
 //! ```
 
-ghost use Rattle.std.specs.Prelude.{◌≡◌, ◌≢◌, ◌+◌, ◌*◌, ◌/◌, ◌^◌, ◌<◌, ◌≤◌, length};
+ghost use Rattle.std.specs.Prelude.{◌≡◌, ◌≢◌, ◌+◌, ◌*◌, ◌/◌, ◌^◌, ◌<◌, ◌≤◌, length, slice_get};
 ghost use Rattle.bitpack_slices.specs.Errors.{Finds};
 ghost use Rattle.bitpack_sets.specs.Faults.{ids_fault};
 ghost use Rattle.bitpack_slices.specs.Reads.{has, rank};
@@ -43,6 +43,20 @@ pub(crate) fn rank_in_array(rest: &[u8], id: u32) -> usize
         }
     }
     low
+}
+
+/// How many ids of an array are below `target`, and the first that is not, if there is one.
+pub(crate) fn seek_in_array(rest: &[u8], target: u32) -> (usize, Option<u32>)
+    requires { IsRising 0 (2 ^ 32) (quads_of rest.now) }
+    ensures rank { result.0 ≡ rank target (quads_of rest.now) }
+    ensures first { result.1 ≡ slice_get (quads_of rest.now) result.0 }
+{
+    let position = rank_in_array(rest, target);
+    if position < rest.len() / 4 {
+        (position, Some(id_at(rest, position)))
+    } else {
+        (position, None)
+    }
 }
 
 /// Whether an array has an id.

@@ -6,7 +6,7 @@
 //! 128 + n | first, a varint | groups of n - 1 codes: an id less the one before it, less 1
 //! ```
 
-ghost use Rattle.std.specs.Prelude.{◌≡◌, ℕ, ◌+◌, ◌*◌, ◌^◌, ◌<◌, ◌≤◌, IfOk, OnOk, length, None, Option, drop, slice_index, take};
+ghost use Rattle.std.specs.Prelude.{◌≡◌, ℕ, ◌+◌, ◌*◌, ◌^◌, ◌<◌, ◌≤◌, IfOk, OnOk, length, None, Option, drop, slice_get, slice_index, take};
 ghost use Rattle.bitpack_slices.specs.Reads.{has, rank};
 ghost use Rattle.bitpack_sets.specs.Reads.{few_ids};
 ghost use Rattle.bitpack_slices.specs.Errors.{Finds};
@@ -113,6 +113,22 @@ impl<'a> Few<'a> {
         let ids = &mut ids[..self.count];
         self.unpack(ids);
         count_below(ids, id)
+    }
+
+    /// How many ids are below `target`, and the first that is not, if there is one.
+    pub(crate) fn seek(self, target: u32) -> (usize, Option<u32>)
+        ensures rank { result.0 ≡ rank target (ids_of_few self.entry) }
+        ensures first { result.1 ≡ slice_get (ids_of_few self.entry) result.0 }
+    {
+        let mut ids = [0; MOST_FEW];
+        let ids = &mut ids[..self.count];
+        self.unpack(ids);
+        let position = count_below(ids, target);
+        if position < ids.len() {
+            (position, Some(ids[position]))
+        } else {
+            (position, None)
+        }
     }
 
     /// The id at a position.

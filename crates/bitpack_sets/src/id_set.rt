@@ -6,7 +6,7 @@ ghost use Rattle.std.specs.Prelude.{◌≡◌, ◌≤◌};
 ghost use Rattle.bitpacking.specs.Bits.{AreBytes};
 ghost use Rattle.bitpack_sets.specs.Stated.{States};
 
-use crate::array::{in_array, rank_in_array, unpack_array};
+use crate::array::{in_array, rank_in_array, seek_in_array, unpack_array};
 use crate::chunks::Chunks;
 use crate::few::MOST_FEW;
 use crate::form::Form;
@@ -164,11 +164,23 @@ impl<'a> IdSet<'a> {
             (λ found. (found.0 ≡ rank target (ids self.now)) × (slice_get (ids self.now) found.0 ≡ Some found.1)) }
         ensures least { IfSome result (λ found. target ≤ found.1) }
     {
-        let position = self.rank(target);
-        if position >= self.len() {
-            return None;
+        let (position, id) = self.place_of(target);
+        match id {
+            Some(id) => Some((position, id)),
+            None => None,
         }
-        Some((position, self.at(position)))
+    }
+
+    /// How many ids are below `target`, and the first that is not, if there is one.
+    fn place_of(&self, target: u32) -> (usize, Option<u32>)
+        ensures rank { result.0 ≡ rank target (ids self.now) }
+        ensures first { result.1 ≡ slice_get (ids self.now) result.0 }
+    {
+        match self.form() {
+            Form::Few(few) => few.seek(target),
+            Form::Array(ids) => seek_in_array(ids, target),
+            Form::Chunks(directory) => directory.seek(target),
+        }
     }
 
     /// An iterator over the ids, in increasing order.

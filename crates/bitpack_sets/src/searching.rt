@@ -1,11 +1,12 @@
 //! Looks ids up in sets in chunks.
 //! FORMAT.md, "Chunks".
 
-ghost use Rattle.std.specs.Prelude.{◌≡◌, ◌+◌, ◌*◌, ◌/◌, ◌%◌, ◌^◌, ◌<◌, ◌≤◌, length, slice_index};
+ghost use Rattle.std.specs.Prelude.{◌≡◌, ◌+◌, ◌*◌, ◌/◌, ◌%◌, ◌^◌, ◌<◌, ◌≤◌, drop, length, slice_get, slice_index, take};
 ghost use Rattle.bitpack_sets.specs.Directory.{before, body_at, body_numbers_of, count_at};
 ghost use Rattle.bitpack_sets.specs.Forms.{directory_ids};
 ghost use Rattle.bitpack_slices.specs.Lows.{AreLows, lows};
 ghost use Rattle.bitpack_slices.specs.Reads.{has, rank};
+ghost use Rattle.bitpack_slices.specs.Slices.{pairs_of};
 
 use crate::directory::{Directory, begin_at, bodies_start, count_before, end_at, key_at, sum_at};
 use bitpack_slices::chunk::Lows;
@@ -13,18 +14,28 @@ use bitpack_slices::chunk::runs::{Runs, begins_runs};
 use bitpack_slices::chunk::search::{number_at, rank_in_numbers};
 
 impl<'a> Directory<'a> {
+    /// How many chunks have a lower key, and whether a chunk has this key.
+    #[inline(always)]
+    fn find(self, key: u16) -> (usize, bool)
+        ensures few { result.0 ≤ self.entry.chunks }
+        ensures chunk { result.0 ≡ rank key (pairs_of (take (2 * self.entry.chunks) (drop 1 self.entry.rest.now))) }
+        ensures there { result.1 ≡ has key (pairs_of (take (2 * self.entry.chunks) (drop 1 self.entry.rest.now))) }
+    {
+        let keys = &self.rest[1..1 + 2 * self.chunks];
+        let chunk = rank_in_numbers(keys, key);
+        if chunk >= self.chunks {
+            return (chunk, false);
+        }
+        (chunk, number_at(keys, chunk) == key)
+    }
+
     /// Whether the set has this id.
     #[inline(always)]
     pub(crate) fn contains(self, id: u32) -> bool
         ensures { result ≡ has id (directory_ids self.entry) }
     {
-        let key = (id / 65536) as u16;
-        let keys = &self.rest[1..1 + 2 * self.chunks];
-        let chunk = rank_in_numbers(keys, key);
-        if chunk >= self.chunks {
-            return false;
-        }
-        if number_at(keys, chunk) != key {
+        let (chunk, there) = self.find((id / 65536) as u16);
+        if !there {
             return false;
         }
         self.lows(chunk).contains((id % 65536) as u16)
@@ -35,17 +46,43 @@ impl<'a> Directory<'a> {
     pub(crate) fn rank(self, id: u32) -> usize
         ensures { result ≡ rank id (directory_ids self.entry) }
     {
-        let key = (id / 65536) as u16;
-        let keys = &self.rest[1..1 + 2 * self.chunks];
-        let chunk = rank_in_numbers(keys, key);
+        let (chunk, there) = self.find((id / 65536) as u16);
         let before = count_before(self.chunks, self.rest, chunk) as usize;
-        if chunk >= self.chunks {
-            return before;
-        }
-        if number_at(keys, chunk) != key {
+        if !there {
             return before;
         }
         before + self.lows(chunk).rank((id % 65536) as u16)
+    }
+
+    /// How many ids are below `target`, and the first that is not, if there is one.
+    #[inline(always)]
+    pub(crate) fn seek(self, target: u32) -> (usize, Option<u32>)
+        ensures rank { result.0 ≡ rank target (directory_ids self.entry) }
+        ensures first { result.1 ≡ slice_get (directory_ids self.entry) result.0 }
+    {
+        let key = (target / 65536) as u16;
+        let (chunk, there) = self.find(key);
+        let before = count_before(self.chunks, self.rest, chunk) as usize;
+        if !there {
+            return (before, self.first_at(chunk));
+        }
+        let (left, low) = self.lows(chunk).seek((target % 65536) as u16);
+        match low {
+            Some(low) => (before + left, Some(key as u32 * 65536 + low as u32)),
+            None => (before + left, self.first_at(chunk + 1)),
+        }
+    }
+
+    /// The first id of a chunk, if there is such a chunk.
+    fn first_at(self, chunk: usize) -> Option<u32>
+        requires within { chunk ≤ self.chunks }
+        ensures { result ≡ slice_get (directory_ids self.entry) (before (Rattle.bitpack_sets.specs.Directory.sum_at self.entry.chunks self.entry.rest.now) chunk) }
+    {
+        if chunk >= self.chunks {
+            return None;
+        }
+        let key = key_at(self.chunks, self.rest, chunk) as u32;
+        Some(key * 65536 + self.lows(chunk).select(0) as u32)
     }
 
     /// The id at a position.

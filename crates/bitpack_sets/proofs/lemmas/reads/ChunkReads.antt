@@ -7,7 +7,8 @@ use Rattle.std.proofs.lemmas.List.FromFn.{get_or-map-range_with_len, take-map-ra
 use Rattle.bitpack_sets.proofs.lemmas.encodings.BodyLaws.{body_blocks, body_numbers, body_runs, by_head, by_size, cases_few, numbers_len}
 use Rattle.bitpack_sets.proofs.lemmas.faults.EntryLaws.{ends_grow, grown_to, sums_grow}
 use Rattle.bitpack_sets.proofs.lemmas.faults.ChunkLaws.{are_parts, counts_in, keys_encoding}
-use Rattle.bitpack_slices.proofs.ForCallers.{EachByte, blocks_begin, bounds_rise, counts, runs_begun, runs_read, keys, keys_rise, none, rank_join, rank_join_not, total}
+use Rattle.bitpack_slices.proofs.ForCallers.{EachByte, blocks_begin, bounds_rise, counts, runs_begun, runs_read, keys, keys_rise, none, rank_join, rank_join_not, has_not, rank_le, total}
+use Rattle.bitpack_sets.proofs.lemmas.reads.HalfLaws.{keys_len}
 use Rattle.bitpack_sets.proofs.lemmas.reads.JoinReads.{has_join, has_join_not}
 use Rattle.bitpack_sets.proofs.lemmas.encodings.ShortLaws.{Grows, before_next, step_of, steps_total}
 use Rattle.bitpack_slices.proofs.ForCallers.{blocks_are_blocks}
@@ -219,3 +220,27 @@ rank_in ids chunks x m rest are is lt e h =
     rank_join 65536 x 0 65536 m (read_chunks chunks rest) (omega arith) (are_parts ids chunks rest are is) (e ∙ ap (rank (x / 65536)) same) (sym (ap (has (x / 65536)) same) ∙ h)
     ∙ ap (λ (n : ℕ). n + rank (x % 65536) (get_or (read_chunks chunks rest) m none).1) (counted_before ids chunks m rest are is (omega arith))
     ∙ ap (λ (p : ℕ × List ℕ). before (sum_at chunks rest) m + rank (x % 65536) p.1) (chunk_there ids chunks m rest lt)
+
+-- a key that occurs is that of a chunk
+pub key_within : (ids chunks x m : ℕ) (rest : List ℕ) → IsRest ids chunks rest → m ≡ rank x (pairs_of (take (2 * chunks) (drop 1 rest))) → has x (pairs_of (take (2 * chunks) (drop 1 rest))) ≡ true → m < chunks
+key_within ids chunks x m rest is e h = elim (cases_lt m chunks) [
+  | inl less ↦ less
+  | inr more ↦ (
+      let room = is.directory.room in
+      let size = keys_len chunks rest (omega arith) in
+      absurd (true≢false (sym h ∙ has_not x m (pairs_of (take (2 * chunks) (drop 1 rest))) e (omega arith))))
+]
+
+pub ranked_in : (ids chunks x m below left : ℕ) (rest : List ℕ) → EachByte rest → IsRest ids chunks rest → m ≡ rank (x / 65536) (pairs_of (take (2 * chunks) (drop 1 rest)))
+    → has (x / 65536) (pairs_of (take (2 * chunks) (drop 1 rest))) ≡ true → below ≡ before (sum_at chunks rest) m
+    → left ≡ rank (x % 65536) (body_numbers_of (count_at chunks rest m) (body_at chunks rest m)) → below + left ≡ rank x (chunk_ids chunks rest)
+ranked_in ids chunks x m below left rest are is e h b l =
+    let there = rank_in ids chunks x m rest are is (key_within ids chunks (x / 65536) m rest is e h) e h in
+    omega arith
+
+pub rank_small : (ids chunks x m left : ℕ) (rest : List ℕ) → IsRest ids chunks rest → m < chunks → left ≡ rank x (body_numbers_of (count_at chunks rest m) (body_at chunks rest m)) → left ≤ 65536
+rank_small ids chunks x m left rest is lt l =
+    let few = rank_le x (body_numbers_of (count_at chunks rest m) (body_at chunks rest m)) in
+    let size = (is.bodies m lt).count_is in
+    let most = (is.entries m lt).few in
+    omega arith

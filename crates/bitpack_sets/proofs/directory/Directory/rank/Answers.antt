@@ -1,80 +1,30 @@
 -- The ids of the chunks before that of the key, and those of its own.
-use Rattle.std.proofs.Common.{◌≡◌, ◌+◌, ◌*◌, ◌/◌, ◌%◌, ◌≤◌, ℕ, List, true, false, ap, arith, drop, get_or, length, subst, sym, take, ◌∙◌, eq-eqb}
-use Rattle.std.proofs.lemmas.Bool.{ne_eqb}
-use Rattle.bitpack_sets.specs.Directory.{before, body_at, body_numbers_of, count_at, sum_at}
-use Rattle.bitpack_slices.specs.Reads.{has, rank}
-use Rattle.bitpack_slices.specs.Bodies.{IsRising}
-use Rattle.bitpack_slices.specs.Slices.{pairs_of}
-use Rattle.bitpack_sets.proofs.lemmas.reads.ChunkReads.{keys_rise_in, rank_in, rank_not_in}
-use Rattle.bitpack_slices.proofs.ForCallers.{bytes_are, has_at_rank, has_not, rank_le}
-use Rattle.bitpack_sets.proofs.lemmas.reads.HalfLaws.{cut_keys, keys_len}
+use Rattle.std.proofs.Common.{◌/◌, ◌%◌, ◌∙◌, ℕ, List, ap, arith, sym}
+use Rattle.bitpack_slices.specs.Reads.{rank}
+use Rattle.bitpack_sets.proofs.lemmas.reads.ChunkReads.{key_within, rank_not_in, rank_small, ranked_in}
+use Rattle.bitpack_slices.proofs.ForCallers.{bytes_are}
 use Rattle.bitpack_sets.proofs.directory.Directory.rank.Goals as goal
 
-pub slice_bounds-keys-end : goal.slice_bounds-keys-end
-slice_bounds-keys-end c = let room = c.args.self.sound.directory.room in omega arith
-
-most : (chunks x : ℕ) (rest : List ℕ) (m : ℕ) → m ≡ rank (x / 65536) (pairs_of (take (2 * chunks) (drop 1 rest))) → 1 + 2 * chunks ≤ length rest → m ≤ chunks
-most chunks x rest m e room =
-    let a = rank_le (x / 65536) (pairs_of (take (2 * chunks) (drop 1 rest))) in
-    let b = keys_len chunks rest room in
-    omega arith
-
-pub count_before-before-requires-clause-within : goal.count_before-before-requires-clause-within
-count_before-before-requires-clause-within c =
+pub returns-then-not-there : goal.returns-then-not-there
+returns-then-not-there c =
     let rest : List ℕ = c.args.self.rest.now in
-    let room = c.args.self.sound.directory.room in
-    most c.args.self.chunks c.args.id rest c.rank_in_numbers-chunk.result (c.rank_in_numbers-chunk.ensures ∙ ap (λ (l : List ℕ). rank (c.args.id / 65536) (pairs_of l)) (cut_keys c.args.self.chunks rest)) (omega arith)
+    c.count_before-before.ensures
+    ∙ sym (rank_not_in c.args.self.count c.args.self.chunks c.args.id c.find-chunk.result.0 rest (bytes_are rest c.args.self.are_bytes) c.args.self.sound c.find-chunk.ensures.few c.find-chunk.ensures.chunk
+    (sym c.find-chunk.ensures.there ∙ c.if-not-there.true))
+
+pub lows-requires : goal.lows-requires
+lows-requires c = record {
+  within = key_within c.args.self.count c.args.self.chunks (c.args.id / 65536) c.find-chunk.result.0 c.args.self.rest.now c.args.self.sound c.find-chunk.ensures.chunk (sym c.find-chunk.ensures.there ∙ c.if-not-there.false);
+}
 
 pub overflow_add-result : goal.overflow_add-result
 overflow_add-result c =
-    let few = rank_le (c.args.id % 65536) (body_numbers_of (count_at c.args.self.chunks c.args.self.rest.now c.rank_in_numbers-chunk.result) (body_at c.args.self.chunks c.args.self.rest.now c.rank_in_numbers-chunk.result)) in
-    let size = (c.args.self.sound.bodies c.rank_in_numbers-chunk.result c.if-chunk-self.false).count_is in
-    let most' = (c.args.self.sound.entries c.rank_in_numbers-chunk.result c.if-chunk-self.false).few in
-    omega (arith, c.rank.ensures ∙ ap (rank (c.args.id % 65536)) c.lows.ensures.lows)
-
-pub rank_in_numbers-chunk-requires : goal.rank_in_numbers-chunk-requires
-rank_in_numbers-chunk-requires c =
-    let rest : List ℕ = c.args.self.rest.now in
-    let are = bytes_are rest c.args.self.are_bytes in
-    subst (λ (l : List ℕ). IsRising 0 65536 (pairs_of l)) (sym (cut_keys c.args.self.chunks rest)) (keys_rise_in c.args.self.count c.args.self.chunks rest are c.args.self.sound)
-
-pub returns-then-chunk-self : goal.returns-then-chunk-self
-returns-then-chunk-self c =
-    let rest : List ℕ = c.args.self.rest.now in
-    let chunks : ℕ = c.args.self.chunks in
-    let are = bytes_are rest c.args.self.are_bytes in
-    let room = c.args.self.sound.directory.room in
-    let size = keys_len chunks rest (omega arith) in
-    let at = c.rank_in_numbers-chunk.ensures ∙ ap (λ (l : List ℕ). rank (c.args.id / 65536) (pairs_of l)) (cut_keys chunks rest) in
-    c.count_before-before.ensures ∙ sym (rank_not_in c.args.self.count chunks c.args.id c.rank_in_numbers-chunk.result rest are c.args.self.sound (omega (arith, most chunks c.args.id rest c.rank_in_numbers-chunk.result at (omega arith))) at (has_not (c.args.id / 65536) c.rank_in_numbers-chunk.result (pairs_of (take (2 * chunks) (drop 1 rest))) at (omega arith)))
-
-pub returns-then-number_at-key : goal.returns-then-number_at-key
-returns-then-number_at-key c =
-    let rest : List ℕ = c.args.self.rest.now in
-    let chunks : ℕ = c.args.self.chunks in
-    let m : ℕ = c.rank_in_numbers-chunk.result in
-    let are = bytes_are rest c.args.self.are_bytes in
-    let room = c.args.self.sound.directory.room in
-    let size = keys_len chunks rest (omega arith) in
-    let keys : List ℕ = pairs_of (take (2 * chunks) (drop 1 rest)) in
-    let at = c.rank_in_numbers-chunk.ensures ∙ ap (λ (l : List ℕ). rank (c.args.id / 65536) (pairs_of l)) (cut_keys chunks rest) in
-    let here = c.number_at.ensures ∙ ap (λ (l : List ℕ). get_or (pairs_of l) m 0) (cut_keys chunks rest) in
-    let other : has (c.args.id / 65536) keys ≡ false =
-    has_at_rank (c.args.id / 65536) 0 65536 m keys (keys_rise_in c.args.self.count chunks rest are c.args.self.sound) at (omega arith) ∙ ne_eqb (get_or keys m 0) (c.args.id / 65536) (λ e. c.if-number_at-key.true (here ∙ e)) in
-    c.count_before-before.ensures ∙ sym (rank_not_in c.args.self.count chunks c.args.id m rest are c.args.self.sound (omega arith) at other)
+    let within = key_within c.args.self.count c.args.self.chunks (c.args.id / 65536) c.find-chunk.result.0 c.args.self.rest.now c.args.self.sound c.find-chunk.ensures.chunk (sym c.find-chunk.ensures.there ∙ c.if-not-there.false) in
+    let small = rank_small c.args.self.count c.args.self.chunks (c.args.id % 65536) c.find-chunk.result.0 c.rank.result c.args.self.rest.now c.args.self.sound within (c.rank.ensures ∙ ap (rank (c.args.id % 65536)) c.lows.ensures.lows) in
+    omega arith
 
 pub returns : goal.returns
 returns c =
     let rest : List ℕ = c.args.self.rest.now in
-    let chunks : ℕ = c.args.self.chunks in
-    let m : ℕ = c.rank_in_numbers-chunk.result in
-    let are = bytes_are rest c.args.self.are_bytes in
-    let room = c.args.self.sound.directory.room in
-    let size = keys_len chunks rest (omega arith) in
-    let keys : List ℕ = pairs_of (take (2 * chunks) (drop 1 rest)) in
-    let at = c.rank_in_numbers-chunk.ensures ∙ ap (λ (l : List ℕ). rank (c.args.id / 65536) (pairs_of l)) (cut_keys chunks rest) in
-    let here = c.number_at.ensures ∙ ap (λ (l : List ℕ). get_or (pairs_of l) m 0) (cut_keys chunks rest) in
-    let found : has (c.args.id / 65536) keys ≡ true =
-    has_at_rank (c.args.id / 65536) 0 65536 m keys (keys_rise_in c.args.self.count chunks rest are c.args.self.sound) at (omega arith) ∙ eq-eqb (get_or keys m 0) (c.args.id / 65536) (sym here ∙ c.if-number_at-key.false) in
-    ap (λ (n : ℕ). n + c.rank.result) c.count_before-before.ensures ∙ ap (λ (n : ℕ). before (sum_at chunks rest) m + n) (c.rank.ensures ∙ ap (rank (c.args.id % 65536)) c.lows.ensures.lows)
-    ∙ sym (rank_in c.args.self.count chunks c.args.id m rest are c.args.self.sound c.if-chunk-self.false at found)
+    ranked_in c.args.self.count c.args.self.chunks c.args.id c.find-chunk.result.0 c.count_before-before.result c.rank.result rest (bytes_are rest c.args.self.are_bytes) c.args.self.sound c.find-chunk.ensures.chunk
+    (sym c.find-chunk.ensures.there ∙ c.if-not-there.false) c.count_before-before.ensures (c.rank.ensures ∙ ap (rank (c.args.id % 65536)) c.lows.ensures.lows)
