@@ -58,6 +58,39 @@ fn sets_of_each_form() {
     }
 }
 
+/// Ids of one chunk, in slices of these lengths in turn.
+fn in_slices(numbers: &mut Numbers, slices: u32, lengths: &[usize]) -> Model {
+    let mut ids = Model::new();
+    for (index, length) in (0..slices).zip(lengths.iter().cycle()) {
+        let (first, before) = (65_536 + 256 * (256 * index / slices), ids.len());
+        while ids.len() < before + length {
+            ids.insert(first + numbers.below(256));
+        }
+    }
+    ids
+}
+
+/// Slices of bytes, of bits and full ones that are as long or as short as they can be, and as many.
+#[test]
+fn slices_of_each_length() {
+    let mut numbers = Numbers(3);
+    for slices in [1, 15, 16, 17, 31, 32, 33, 255, 256] {
+        for lengths in [&[32][..], &[31], &[31, 32, 33], &[1, 256, 2], &[255, 32, 256]] {
+            let ids = in_slices(&mut numbers, slices, lengths);
+            let (set, ids) = (packed(&ids), listed(&ids));
+            for target in (65_530..131_080).step_by(3) {
+                let rank = ids.partition_point(|id| *id < target);
+                let found = ids.get(rank).map(|id| (rank, *id));
+                assert_eq!((set.rank(target), set.seek(target)), (rank, found));
+                assert_eq!(set.contains(target), found.is_some_and(|found| found.1 == target));
+            }
+            for position in (0..ids.len() + 2).step_by(3) {
+                assert_eq!(set.select(position), ids.get(position).copied());
+            }
+        }
+    }
+}
+
 /// Sets worked by hand, as docs/FORMAT.md works some.
 #[test]
 fn worked_bytes() {
