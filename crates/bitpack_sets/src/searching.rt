@@ -22,6 +22,12 @@ impl<'a> Directory<'a> {
         ensures there { result.1 ≡ has key (pairs_of (take (2 * self.entry.chunks) (drop 1 self.entry.rest.now))) }
     {
         let keys = &self.rest[1..1 + 2 * self.chunks];
+        // Most sets have each chunk from their first to this one.
+        let first = number_at(keys, 0);
+        let guess = key.wrapping_sub(first) as usize;
+        if guess < self.chunks && number_at(keys, guess) == key {
+            return (guess, true);
+        }
         let chunk = rank_in_numbers(keys, key);
         if chunk >= self.chunks {
             return (chunk, false);
