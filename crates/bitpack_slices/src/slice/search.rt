@@ -120,7 +120,7 @@ fn select_in_word(word: u64, position: usize) -> u8
 {
     let mut left = word;
     for _ in 0..position {
-        left -= 1 << left.trailing_zeros();
+        left &= left.wrapping_sub(1);
     }
     left.trailing_zeros() as u8
 }

@@ -1,8 +1,7 @@
 -- The bits of a number that are 1, and the bytes of a number.
-use Rattle.std.proofs.Common.{◌≡◌, ℕ, zero, suc, ◌+◌, ◌*◌, ◌/◌, ◌%◌, ◌^◌, ◌-◌, ◌<◌, ◌≤◌, Bool, true, false, eqb, List, [], ◌∷◌, length, refl, sym, ap, ◌∙◌, arith, pow-add, cond, lit<, inl, inr, subst, zero-mul, mod-eq_of_lt, pow_pos, w64}
-use Rattle.std.specs.Int.{trailing_zeros, bit_at}
-use Rattle.std.proofs.lemmas.Nat.Bits.{bit_at-trailing_zeros, bit_at_above}
-use Rattle.std.proofs.lemmas.Nat.{one_shl, mod-pow-add, shr-shr, mod_below}
+use Rattle.std.proofs.Common.{◌≡◌, ℕ, zero, suc, ◌+◌, ◌*◌, ◌/◌, ◌%◌, ◌^◌, ◌-◌, ◌<◌, ◌≤◌, Bool, true, false, eqb, List, [], ◌∷◌, length, refl, sym, ap, ◌∙◌, arith, pow-add, cond, lit<, inl, inr, subst, zero-mul, mod-eq_of_lt}
+use Rattle.std.specs.Int.{bit_at}
+use Rattle.std.proofs.lemmas.Nat.{mod-pow-add, shr-shr, mod_below}
 use Rattle.std.specs.List.{filter, range_with_len}
 use Rattle.std.proofs.lemmas.Bool.{cases_lt}
 use Rattle.bitpack_slices.proofs.lemmas.slices.SliceLaws.{bit_below, bit_first, bits_one, rising_room}
@@ -110,30 +109,3 @@ ones_few x low n = let r : low + length (ones_from x low n) ≤ low + n = rising
 pub none_of_zero : ones_from 0 0 64 ≡ []
 unfolding ones_from
 none_of_zero = refl
-
--- a step of a loop that takes the lowest bit of 1 from a word
-pub record IsStep (x t : ℕ) : Type 0 where
-  pub within : t < 64
-  pub part : 1 * 2 ^ t % 2 ^ 64 ≤ x
-  pub less : x - 1 * 2 ^ t % 2 ^ 64 < x
-  pub ones : ones_from x 0 64 ≡ t ∷ ones_from (x - 1 * 2 ^ t % 2 ^ 64) 0 64
-
-bit_le : (x t : ℕ) → bit_at x t ≡ 1 → 2 ^ t ≤ x
-bit_le x t one = elim (cases_lt x (2 ^ t)) [ inl less ↦ (let z : bit_at x t ≡ 0 = bit_at_above x t t less (omega arith) in absurd (omega arith)) | inr more ↦ more ]
-
-step_of : (x t : ℕ) → 0 < x → x < 2 ^ 64 → t < 64 → bit_at x t ≡ 1 → ((i : ℕ) → i < t → bit_at x i ≡ 0) → IsStep x t
-step_of x t pos small few one none =
-    let shift : 1 * 2 ^ t % 2 ^ 64 ≡ 2 ^ t = one_shl t 64 few in
-    let part : 2 ^ t ≤ x = bit_le x t one in
-    let some : 0 < 2 ^ t = pow_pos t in
-    record {
-      within = few;
-      part = omega arith;
-      less = omega arith;
-      ones = lowest_one x t pos small one none ∙ ap (λ (n : ℕ). t ∷ ones_from (x - n) 0 64) (sym shift);
-    }
-
-pub word_step : (x : ℕ) → 0 < x → x < 2 ^ 64 → IsStep x (trailing_zeros w64 x)
-word_step x pos small =
-    let (few, one, none) = bit_at-trailing_zeros w64 x pos small in
-    step_of x (trailing_zeros w64 x) pos small few one none
