@@ -66,7 +66,7 @@ pub fn write_combined(
 fn is_slower(operation: Operation, a: usize, b: usize) -> bool {
     match operation {
         Operation::And => true,
-        Operation::AndNot => a < b / MORE,
+        Operation::AndNot if a < b / MORE => true,
         _ => a.min(b) >= MANY,
     }
 }
