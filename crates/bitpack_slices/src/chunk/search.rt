@@ -137,8 +137,8 @@ impl<'a> Parts<'a> {
 /// How many counts are added up at once.
 const STEP: usize = 16;
 
-/// A slice that is not after the one with the number at a position, and how many numbers are from it to there. By steps, as long as each is full and
-/// before the number. Each count less 1 is given.
+/// A slice that is not after the one with the number at a position, and how many numbers are from it to there. It passes as many slices at once as
+/// a step has, while that many are left and come before the number. Each count less 1 is given.
 fn step_of(counts: &[u8], position: usize) -> (usize, usize)
     requires { position < numbers_in counts.now }
     ensures slice { result.0 < length counts.now }
