@@ -1,7 +1,7 @@
 -- What the proofs of other crates may cite.
 pub use Rattle.bitpack_slices.proofs.lemmas.numbers.AnswerLaws.{each, none_left, none_pass, none_right, those_part, those_same}
 pub use Rattle.bitpack_slices.proofs.lemmas.bytes.ArrayLaws.{no_fall, quads_len, rises_from}
-pub use Rattle.bitpack_slices.proofs.lemmas.bits.BitmapLaws.{has_more, has_part, range_cat, those_few, those_raised, those_split}
+pub use Rattle.bitpack_slices.proofs.lemmas.bits.BitmapLaws.{has_more, has_part, range_cat, those_few, those_raised, those_split, word_bit}
 pub use Rattle.bitpack_slices.proofs.lemmas.bodies.JoinLaws.{AreParts, below_top, build_are, build_highs, join, numbers_built}
 unfoldable pub use Rattle.bitpack_slices.proofs.lemmas.bodies.JoinLaws.{build}
 pub use Rattle.bitpack_slices.proofs.lemmas.bodies.BodyFaults.{fault_of_blocks, fault_of_numbers, fault_of_runs, of_numbers}
@@ -23,7 +23,7 @@ pub use Rattle.bitpack_slices.proofs.lemmas.bits.OnesLaws.{number_little, ones_a
 pub use Rattle.bitpack_slices.proofs.lemmas.numbers.QueryIds.{all_from, head_left_out, head_retained, none_from}
 pub use Rattle.bitpack_slices.proofs.lemmas.bits.RaisedLaws.{map_raised, rising_append}
 pub use Rattle.bitpack_slices.proofs.lemmas.numbers.RangeLaws.{join_range, min_less, part_written, rising_drop}
-pub use Rattle.bitpack_slices.proofs.lemmas.bodies.ReadLaws.{bit_le, byte_is, eqb_same, has_all, has_append, has_below, has_done, has_here, has_next, le_self, rank_below, rank_done, rank_drop, rank_le}
+pub use Rattle.bitpack_slices.proofs.lemmas.bodies.ReadLaws.{bit_le, bit_of_bytes, byte_is, eqb_same, has_all, has_append, has_below, has_done, has_here, has_next, le_self, rank_below, rank_done, rank_drop, rank_le}
 pub use Rattle.bitpack_slices.proofs.lemmas.numbers.SelectLaws.{join_at}
 pub use Rattle.bitpack_slices.proofs.lemmas.slices.SelectionLaws.{and_false, map_zero, retained}
 pub use Rattle.bitpack_slices.proofs.lemmas.slices.SliceLaws.{bits_one, bits_room, rising_room, slice_few, slice_many, slice_some}
@@ -35,5 +35,5 @@ pub use Rattle.bitpack_slices.proofs.lemmas.slices.BackLaws.{little_number, one_
 pub use Rattle.bitpack_slices.proofs.lemmas.bodies.OneBlocks.{append_same, blocks_back, both_blocks, slice_len_same}
 pub use Rattle.bitpack_slices.proofs.lemmas.bodies.RunBodies.{blocks_begin, few_small, runs_begun, runs_len, runs_pass, runs_read}
 pub use Rattle.bitpack_slices.proofs.lemmas.bodies.RunBounds.{bounds_back, bounds_rise, range_bounds, runs_back, some_bounds}
-pub use Rattle.bitpack_slices.proofs.lemmas.bodies.RunLaws.{drop_range, pairs_rise, range_rise, runs_most, runs_rise, take_range}
+pub use Rattle.bitpack_slices.proofs.lemmas.bodies.RunLaws.{drop_range, has_run, or_moved, pairs_rise, range_rise, runs_most, runs_rise, take_range}
 pub use Rattle.bitpack_slices.proofs.lemmas.bytes.PairLaws.{numbers_back, pairs_back, pairs_below}

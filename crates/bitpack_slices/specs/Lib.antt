@@ -7,6 +7,7 @@ pub mod Lists
 pub mod Lows
 pub mod Operations
 pub mod Parts
+pub mod Places
 pub mod Props
 pub mod Runs
 pub mod Reads

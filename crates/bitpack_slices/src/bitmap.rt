@@ -4,7 +4,7 @@ pub mod bodies;
 pub mod combining;
 pub mod loading;
 pub(crate) mod ones;
-pub(crate) mod ranges;
+pub mod ranges;
 pub mod single_bits;
 pub mod unpacking;
 pub mod writing;

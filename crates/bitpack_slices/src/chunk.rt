@@ -10,13 +10,14 @@
 
 pub mod bounds;
 pub mod parts;
+pub mod place;
 pub mod reading;
 pub mod runs;
 pub mod search;
 pub mod testing;
 pub mod writing;
 
-ghost use Rattle.std.specs.Prelude.{◌≡◌, ℕ, ◌+◌, ◌^◌, ◌<◌, ◌≤◌, drop, length, map, slice_get, slice_index, take};
+ghost use Rattle.std.specs.Prelude.{◌≡◌, ℕ, ◌+◌, ◌^◌, ◌<◌, ◌≤◌, drop, length, map, max, slice_get, slice_index, take};
 ghost use Rattle.bitpack_slices.specs.Bitmaps.{Represents, has_bit, has_high};
 ghost use Rattle.bitpack_slices.specs.Bodies.{IsRising};
 ghost use Rattle.bitpack_slices.specs.Lows.{AreLows, lows};
@@ -25,6 +26,7 @@ ghost use Rattle.bitpack_slices.specs.Reads.{has, rank};
 use crate::bitmap::loading::{integer_highs, load_integers};
 use crate::blocks::loading::load_blocks;
 use crate::chunk::parts::Parts;
+use crate::chunk::place::Place;
 use crate::chunk::reading::unpack_numbers_from;
 use crate::chunk::runs::Runs;
 use crate::chunk::search::{in_numbers, number_at, rank_in_numbers, seek_in_numbers};
@@ -41,6 +43,8 @@ pub enum Lows<'a> {
 }
 
 impl<'a> Lows<'a> {
+    ghost use Rattle.bitpack_slices.specs.Places.{IsPlace, before_of, counts_of};
+
     /// Whether a number is among them.
     #[inline(always)]
     pub fn contains(self, number: u16) -> bool
@@ -122,19 +126,55 @@ impl<'a> Lows<'a> {
         }
     }
 
-    /// Writes those from a position on, as many as there is room for, each with `base` added.
+    /// Writes those from a position on, as many as there is room for, each with `base` added. It begins at a slice that is not after the position, and
+    /// returns one that is not after the end.
     #[inline(always)]
-    pub fn unpack_from(self, base: u32, from: usize, out: &mut [u32])
+    pub fn unpack_at(self, place: Place, base: u32, from: usize, out: &mut [u32]) -> Place
         requires are { AreLows self }
+        requires place { IsPlace (counts_of self) place }
+        requires after { before_of place ≤ from }
         requires fits { base + 65536 ≤ 2 ^ 32 }
         requires begin { from < length (lows self) }
         requires within { from + length out.old ≤ length (lows self) }
-        ensures { out.new ≡ map (λ i. base + i) (take (length out.old) (drop from (lows self.entry))) }
+        ensures numbers { out.new ≡ map (λ i. base + i) (take (length out.old) (drop from (lows self.entry))) }
+        ensures place { IsPlace (counts_of self.entry) result }
+        ensures after { before_of result ≤ from + length out.old }
     {
         match self {
-            Lows::Numbers(body) => unpack_numbers_from(body, base, from, out),
-            Lows::Blocks(body) => Parts::new(body).unpack_from(base, from, out),
-            Lows::Runs(runs) => runs.unpack_from(base, from, out),
+            Lows::Numbers(body) => {
+                unpack_numbers_from(body, base, from, out);
+                place
+            }
+            Lows::Blocks(body) => Parts::new(body).unpack_at(place, base, from, out),
+            Lows::Runs(runs) => {
+                runs.unpack_from(base, from, out);
+                place
+            }
+        }
+    }
+
+    /// How many are below a number, or before a slice if these are more; and the number at this position, if there is one. Also returns a slice that is
+    /// not after it.
+    #[inline(always)]
+    pub fn seek_at(self, place: Place, number: u16) -> (Place, usize, Option<u16>)
+        requires are { AreLows self }
+        requires place { IsPlace (counts_of self) place }
+        ensures place { IsPlace (counts_of self.entry) result.0 }
+        ensures after { before_of result.0 ≤ result.1 }
+        ensures within { result.1 ≤ length (lows self.entry) }
+        ensures rank { result.1 ≡ max (before_of place) (rank number (lows self.entry)) }
+        ensures first { result.2 ≡ slice_get (lows self.entry) result.1 }
+    {
+        match self {
+            Lows::Numbers(body) => {
+                let (position, first) = seek_in_numbers(body, number);
+                (place, position, first)
+            }
+            Lows::Blocks(body) => Parts::new(body).seek_at(place, number),
+            Lows::Runs(runs) => {
+                let (position, first) = runs.seek(number);
+                (place, position, first)
+            }
         }
     }
 }

@@ -10,7 +10,7 @@
 
 pub(crate) mod matches;
 pub(crate) mod positions;
-pub(crate) mod reading;
+pub mod reading;
 pub(crate) mod rows;
 pub(crate) mod search;
 pub(crate) mod selecting;

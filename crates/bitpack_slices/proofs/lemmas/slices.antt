@@ -2,6 +2,7 @@
 pub mod BackLaws
 pub mod MatchLaws
 pub mod MemberLaws
+pub mod PlaceLaws
 pub mod SelectionLaws
 pub mod SliceLaws
 pub mod SumsLaws

@@ -5,7 +5,7 @@ ghost use Rattle.std.specs.Int.{bit_at};
 ghost use Rattle.bitpack_slices.specs.Bitmaps.{has_bit};
 
 /// Sets the bits from one on, below another.
-pub(crate) fn set_range(words: &mut [u64], from: usize, to: usize)
+pub fn set_range(words: &mut [u64], from: usize, to: usize)
     requires order { from ≤ to }
     requires within { to ≤ 64 * length words.old }
     requires few { length words.old ≤ 1024 }

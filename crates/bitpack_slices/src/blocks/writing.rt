@@ -6,11 +6,11 @@
 //! r - 1 | slice of the r high bytes that occur | r counts, each less 1 | r slices of low bytes
 //! ```
 
-ghost use Rattle.std.specs.Prelude.{◌≡◌, ℕ, ◌+◌, ◌-◌, ◌*◌, ◌<◌, ◌≤◌, ◌∷◌, ◌++◌, IfSome, false, length, take};
+ghost use Rattle.std.specs.Prelude.{◌≡◌, ℕ, ◌+◌, ◌-◌, ◌*◌, ◌<◌, ◌≤◌, ◌∷◌, ◌++◌, IfSome, false, length, take, true};
 ghost use Rattle.bitpack_slices.specs.Bitmaps.{has_bit};
 ghost use Rattle.bitpack_slices.specs.Bodies.{blocks, slice};
 ghost use Rattle.bitpack_slices.specs.Body.{body};
-ghost use Rattle.bitpack_slices.specs.Operations.{combined, those};
+ghost use Rattle.bitpack_slices.specs.Operations.{apply, combined, those};
 ghost use Rattle.bitpack_slices.specs.Selections.{parts_numbers};
 ghost use Rattle.bitpack_slices.specs.Slices.{IsBlocks, block_numbers};
 
@@ -34,8 +34,8 @@ const MANY: usize = 8192;
 /// A body is looked up in another one if that has this many times its bytes.
 const MORE: usize = 16;
 
-/// Writes the body of the numbers that an operation on two bodies of blocks gives, if it is blocks too. Returns how many numbers these are, and
-/// how many bytes the body has. If there is no number, it has no byte.
+/// Writes the body of the numbers that an operation other than AND on two bodies of blocks gives, if it is blocks too. Returns how many numbers
+/// these are, and how many bytes the body has. If there is no number, it has no byte.
 pub fn write_combined(
     operation: Operation,
     a: &[u8],
@@ -44,6 +44,7 @@ pub fn write_combined(
 ) -> Option<(usize, usize)>
     requires a { IsBlocks (length (block_numbers a.now)) a.now }
     requires b { IsBlocks (length (block_numbers b.now)) b.now }
+    requires left { apply operation true false ≡ true }
     ensures count { IfSome result (λ written. written.0 ≡ length (combined 65536 operation (block_numbers a.now) (block_numbers b.now))) }
     ensures small { IfSome result (λ written. written.1 ≤ 2 * written.0) }
     ensures most { IfSome result (λ written. written.1 ≤ 8449) }
@@ -65,7 +66,6 @@ pub fn write_combined(
 /// Whether two bodies of these lengths are combined in less time in another way. Only the time depends on it.
 fn is_slower(operation: Operation, a: usize, b: usize) -> bool {
     match operation {
-        Operation::And => true,
         Operation::AndNot if a < b / MORE => true,
         _ => a.min(b) >= MANY,
     }
@@ -81,6 +81,7 @@ fn write_blocks(
 ) -> (usize, usize)
     requires a { IsBlocks (length (block_numbers a.now)) a.now }
     requires b { IsBlocks (length (block_numbers b.now)) b.now }
+    requires left { apply operation true false ≡ true }
     ensures count { result.0 ≡ length (combined 65536 operation (block_numbers a.now) (block_numbers b.now)) }
     ensures most { result.1 ≤ 8449 }
     ensures written { 0 < result.0 → take result.1 out.new ≡ blocks (combined 65536 operation (block_numbers a.now) (block_numbers b.now)) }
@@ -89,10 +90,9 @@ fn write_blocks(
     let x = Blocks::new(a, &mut starts.0);
     let y = Blocks::new(b, &mut starts.1);
     match operation {
-        Operation::And => write_each(Operation::And, &x, &y, out),
         Operation::Or => write_each(Operation::Or, &x, &y, out),
-        Operation::AndNot => write_each(Operation::AndNot, &x, &y, out),
         Operation::Xor => write_each(Operation::Xor, &x, &y, out),
+        _ => write_each(Operation::AndNot, &x, &y, out),
     }
 }
 

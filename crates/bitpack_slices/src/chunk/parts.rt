@@ -12,7 +12,7 @@ ghost use Rattle.bitpacking.specs.Bits.{AreBytes};
 ghost use Rattle.bitpack_slices.specs.Bitmaps.{has_bit};
 ghost use Rattle.bitpack_slices.specs.Props.{rising_prop, slices_prop};
 ghost use Rattle.bitpack_slices.specs.Reads.{has};
-ghost use Rattle.bitpack_slices.specs.Slices.{AreSlices, IsBlocks, IsSlice, block_numbers, numbers_in, slice_len, slice_numbers};
+ghost use Rattle.bitpack_slices.specs.Slices.{AreSlices, IsBlocks, IsSlice, block_numbers, counts_in, numbers_in, slice_len, slice_numbers};
 
 use crate::bitmap::single_bits::slice_bits;
 use crate::slice::byte_len;
@@ -38,6 +38,7 @@ impl<'a> Parts<'a> {
     #[inline(always)]
     pub(crate) fn new(body: &'a [u8]) -> Parts<'a>
         requires { IsBlocks (length (block_numbers body.now)) body.now }
+        ensures counts { result.counts.now ≡ counts_in body.now }
         ensures numbers { numbers_in_parts result ≡ block_numbers body.now }
         ensures counted { numbers_in result.counts.now ≡ length (block_numbers body.now) }
         // The slices are the last bytes of the body.

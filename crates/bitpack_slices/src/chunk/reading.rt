@@ -5,9 +5,10 @@ ghost use Rattle.std.specs.Prelude.{◌≡◌, ◌+◌, ◌*◌, ◌/◌, ◌^�
 ghost use Rattle.bitpack_slices.specs.Slices.{AreSlices, IsBlocks, IsSlice, block_numbers, numbers_in, numbers_of, pairs_of, slice_len, slice_numbers, slices_len};
 
 use crate::chunk::parts::Parts;
-use crate::chunk::search::{number_at, offset_of_slice, slice_of};
+use crate::chunk::place::Place;
+use crate::chunk::search::number_at;
 use crate::slice::byte_len;
-use crate::slice::reading::{unpack_from, unpack_slice, unpack_slice_from};
+use crate::slice::reading::{unpack_from, unpack_slice, unpack_some};
 
 /// With at most this many bytes a slice on average, most slices have at most eight numbers. On a Xeon of model 85, a call takes 1.3 times as long
 /// with 0 for 2.6 numbers of each slice.
@@ -69,31 +70,40 @@ fn unpack_parts(
 
 impl<'a> Parts<'a> {
     ghost use Rattle.bitpack_slices.specs.Parts.{numbers_in_parts};
+    ghost use Rattle.bitpack_slices.specs.Places.{IsPlace};
 
-    /// Writes the numbers from a position on, as many as there is room for, each with `base` added.
-    pub(crate) fn unpack_from(self, base: u32, from: usize, out: &mut [u32])
+    /// Writes the numbers from a position on, as many as there is room for, each with `base` added. It begins at a slice that is not after the
+    /// position, and returns one that is not after the end.
+    pub(crate) fn unpack_at(self, place: Place, base: u32, from: usize, out: &mut [u32]) -> Place
+        requires place { IsPlace self.counts.now place }
+        requires after { place.before ≤ from }
         requires fits { base + 65536 ≤ 2 ^ 32 }
         requires begin { from < numbers_in self.counts.now }
         requires within { from + length out.old ≤ numbers_in self.counts.now }
-        ensures { out.new ≡ map (λ i. base + i) (take (length out.old) (drop from (numbers_in_parts self.entry))) }
+        ensures numbers { out.new ≡ map (λ i. base + i) (take (length out.old) (drop from (numbers_in_parts self.entry))) }
+        ensures place { IsPlace self.entry.counts.now result }
+        ensures after { result.before ≤ from + length out.old }
     {
+        let few = self.slices.len() <= FEW * self.counts.len();
         let mut firsts = [0; 256];
         unpack_slice(self.counts.len(), self.highs, 0, &mut firsts, 0);
-        let (mut index, mut left) = slice_of(self.counts, from);
-        let mut offset = offset_of_slice(self.counts, index);
+        let mut here = self.place_at(place, from);
+        let (mut index, mut offset, mut left) = (here.index, here.offset, from - here.before);
         let mut next = 0;
         while next < out.len() {
+            here = Place {
+                index,
+                offset,
+                before: from + next - left,
+            };
             let count = self.counts[index] as usize + 1;
-            let size = byte_len(count);
-            let slice = &self.slices[offset..offset + size];
             let first = base + 256 * firsts[index];
-            let wanted = (count - left).min(out.len() - next);
-            unpack_slice_from(count, slice, first, left, &mut out[next..next + wanted]);
-            next += wanted;
-            offset += size;
+            next = unpack_some(few, count, self.slices, offset, first, left, out, next);
+            offset += byte_len(count);
             index += 1;
             left = 0;
         }
+        here
     }
 }
 

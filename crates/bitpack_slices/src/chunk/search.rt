@@ -67,7 +67,7 @@ impl<'a> Parts<'a> {
 
     /// The first number of the slice with this index, which begins at `offset`, if there is one.
     #[inline(always)]
-    fn first_at(self, index: usize, offset: usize) -> Option<u16>
+    pub(crate) fn first_at(self, index: usize, offset: usize) -> Option<u16>
         requires within { index ≤ length self.counts.now }
         requires offset { offset ≡ slices_len (take index self.counts.now) }
         ensures { result ≡ slice_get (numbers_in_parts self.entry) (numbers_in (take index self.entry.counts.now)) }
@@ -106,7 +106,7 @@ impl<'a> Parts<'a> {
 
     /// The slice with this index, which begins at `offset`.
     #[inline(always)]
-    fn slice_from(self, index: usize, offset: usize) -> Slice<'a>
+    pub(crate) fn slice_from(self, index: usize, offset: usize) -> Slice<'a>
         requires within { index < length self.counts.now }
         requires offset { offset ≡ slices_len (take index self.counts.now) }
         ensures count { result.count ≡ slice_index self.entry.counts.now index + 1 }

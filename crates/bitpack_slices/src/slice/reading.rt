@@ -1,7 +1,7 @@
 //! Unpacks the numbers of slices, in order.
 //! FORMAT.md, "Chunks".
 
-ghost use Rattle.std.specs.Prelude.{◌≡◌, ℕ, ◌+◌, ◌*◌, ◌/◌, ◌^◌, ◌<◌, ◌≤◌, ◌++◌, drop, length, map, slice_index, take};
+ghost use Rattle.std.specs.Prelude.{◌≡◌, ℕ, ◌+◌, ◌*◌, ◌/◌, ◌^◌, ◌<◌, ◌≤◌, ◌++◌, drop, length, map, min, slice_index, take, ◌-◌};
 ghost use Rattle.std.specs.List.{range_with_len};
 ghost use Rattle.bitpack_slices.specs.Bitmaps.{has_bit};
 ghost use Rattle.bitpack_slices.specs.Reads.{has};
@@ -93,6 +93,40 @@ fn unpack_last(count: usize, bytes: &[u8], base: u32, out: &mut [u32], at: usize
     at + end
 }
 
+/// Writes the numbers of the slice of `count` that begins at `start`, from a position on, as many as there is room for, each with `base` added.
+/// Returns the index after the last.
+///
+/// `few` is as for `unpack_from`, and up to 31 items after the end may change too.
+#[inline(always)]
+pub(crate) fn unpack_some(
+    few: bool,
+    count: usize,
+    slices: &[u8],
+    start: usize,
+    base: u32,
+    from: usize,
+    out: &mut [u32],
+    at: usize,
+) -> usize
+    requires count { count ≤ 256 }
+    requires size { start + slice_len count ≤ length slices.now }
+    requires slice { IsSlice count (take (slice_len count) (drop start slices.now)) }
+    requires fits { base + 256 ≤ 2 ^ 32 }
+    requires from { from ≤ count }
+    requires room { at ≤ length out.old }
+    ensures end { result ≡ at + min (count - from) (length out.old - at) }
+    ensures values { take result out.new
+        ≡ take at out.old ++ map (λ i. base + i) (take (result - at) (drop from (slice_numbers count (take (slice_len count) (drop start slices.now))))) }
+{
+    if from == 0 && count <= out.len() - at {
+        return unpack_from(few, count, slices, start, base, out, at);
+    }
+    let wanted = (count - from).min(out.len() - at);
+    let bytes = &slices[start..start + byte_len(count)];
+    unpack_slice_from(count, bytes, base, from, &mut out[at..at + wanted]);
+    at + wanted
+}
+
 /// Writes the numbers of a slice of `count` from a position on, as many as there is room for, each with `base` added.
 pub(crate) fn unpack_slice_from(count: usize, bytes: &[u8], base: u32, from: usize, out: &mut [u32])
     requires count { count ≤ 256 }
@@ -102,6 +136,10 @@ pub(crate) fn unpack_slice_from(count: usize, bytes: &[u8], base: u32, from: usi
     requires within { from + length out.old ≤ count }
     ensures { out.new ≡ map (λ i. base + i) (take (length out.old) (drop from (slice_numbers count bytes.now))) }
 {
+    if count < 32 {
+        unpack_bytes(&bytes[from..from + out.len()], base, out, 0);
+        return;
+    }
     let mut numbers = [0; 256];
     unpack_slice(count, bytes, base, &mut numbers, 0);
     out.copy_from_slice(&numbers[from..from + out.len()]);
@@ -199,7 +237,7 @@ pub(crate) fn words_of(bytes: &[u8]) -> [u64; 4]
 
 /// Word i of some bytes.
 #[inline(always)]
-pub(crate) fn word_at(bytes: &[u8], i: usize) -> u64
+pub fn word_at(bytes: &[u8], i: usize) -> u64
     requires { 8 * i + 8 ≤ length bytes.now }
     ensures { result ≡ number_of (take 8 (drop (8 * i) bytes.now)) }
 {

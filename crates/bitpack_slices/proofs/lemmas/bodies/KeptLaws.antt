@@ -1,8 +1,9 @@
 -- Of some high bytes, those that have numbers are kept: their counts and slices are written one after the other.
 use Rattle.std.proofs.Common.{◌≡◌, ℕ, ◌+◌, ◌-◌, ◌*◌, ◌/◌, ◌<◌, ◌≤◌, Bool, true, false, ◌||◌, cond, ltb, eqb, List, [], ◌∷◌, ◌++◌, map, length, get_or, refl, sym, ap, ◌∙◌, arith, drop, take, set, subst, append-nil, append_assoc}
 use Rattle.std.specs.List.{filter, flat_map}
+use Rattle.std.proofs.Math.Bool.{or-false}
 use Rattle.std.proofs.lemmas.Bool.{le-ltb, lt-ltb}
-use Rattle.std.proofs.lemmas.List.{drop_all, drop_more, length-map, length-take-le, take_more_set, length-set}
+use Rattle.std.proofs.lemmas.List.{drop_all, drop_more, length-map, length-take-le, nil_from_length, take_more_set, length-set}
 use Rattle.bitpack_slices.proofs.lemmas.bits.BitmapLaws.{those_none}
 use Rattle.bitpack_slices.proofs.lemmas.bits.UnpackLaws.{by_high, high_counted, lows}
 use Rattle.bitpack_slices.proofs.lemmas.bodies.CutLaws.{len_few}
@@ -94,10 +95,6 @@ kept_one p highs occurring counts slices new out index count kept next more end 
           ∙ ap (λ (l : List ℕ). take next slices ++ flat_map (bytes_of p) l) (sym own) ∙ left.written;
     }
 
-none_long : (xs : List ℕ) → length xs ≡ 0 → xs ≡ []
-none_long [] e = refl
-none_long (x ∷ xs) e = absurd (omega arith)
-
 -- one without
 pub kept_none : (p : ℕ → Bool) (highs occurring counts slices out : List ℕ) (index count kept next more end : ℕ) → index < length highs
     → KeptLeft p highs occurring counts slices index count kept next → more ≡ 0 → more ≡ length (lows p (get_or highs index 0)) → end ≡ next + slice_len more
@@ -109,7 +106,7 @@ kept_none p highs occurring counts slices out index count kept next more end h l
     let bytes : List ℕ = flat_map (bytes_of p) rest in
     let own : kept_of p (drop index highs) ≡ rest =
     ap (kept_of p) (drop_more highs index 0 h) ∙ ap (λ (b : Bool). cond b (x ∷ rest) rest) (le-ltb 0 (length (lows p x)) (omega arith)) in
-    let empty : slice (lows p x) ≡ [] = slice_few (lows p x) (omega arith) ∙ none_long (lows p x) (omega arith) in
+    let empty : slice (lows p x) ≡ [] = slice_few (lows p x) (omega arith) ∙ nil_from_length (lows p x) (omega arith) in
     let few = left.few in
     let room = left.room in
     let all = left.all in
@@ -133,10 +130,6 @@ kept_at p highs occurring counts slices occurring' counts' index count kept next
     subst (λ (l : List ℕ). KeptLeft p highs l counts' slices index count kept' next) (sym e)
     (subst (λ (l : List ℕ). KeptLeft p highs occurring l slices index count kept' next) (sym f)
     (subst (λ (n : ℕ). KeptLeft p highs occurring counts slices index count n next) (sym g) left))
-
-or_none : (b : Bool) → (b || false) ≡ b
-or_none true = refl
-or_none false = refl
 
 -- ---- the high bytes that are kept are all that the answer has
 
@@ -194,7 +187,7 @@ kept_blocks operation a b bits highs occurring counts slices index count kept ne
     let rise : IsRising 0 256 highs = listed_rise bits highs listed_is in
     let none : drop index highs ≡ [] = drop_all index highs done in
     let occur : (h : ℕ) → has_bit occurring h ≡ has h (kept_of p highs) =
-    λ h. sym (or_none (has_bit occurring h)) ∙ ap (λ (l : List ℕ). has_bit occurring h || has h (kept_of p l)) (sym none) ∙ at.occur h in
+    λ h. sym (or-false (has_bit occurring h)) ∙ ap (λ (l : List ℕ). has_bit occurring h || has h (kept_of p l)) (sym none) ∙ at.occur h in
     let own : hs ≡ kept_of p highs = kept_those p highs occurring rise occur in
     let counts_are : take kept counts ≡ map (less_of p) hs =
     sym (append-nil (take kept counts)) ∙ ap (λ (l : List ℕ). take kept counts ++ map (less_of p) (kept_of p l)) (sym none) ∙ at.counted ∙ ap (map (less_of p)) (sym own) in

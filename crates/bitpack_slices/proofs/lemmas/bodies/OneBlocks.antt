@@ -1,16 +1,17 @@
 -- Blocks are those of no other numbers, and are read back.
-use Rattle.std.proofs.Common.{◌≡◌, ℕ, ◌+◌, ◌*◌, ◌-◌, ◌<◌, ◌≤◌, List, [], ◌∷◌, ◌++◌, map, length, refl, sym, ap, ◌∙◌, arith, lit<, inl, inr, length-append}
+use Rattle.std.proofs.Common.{◌≡◌, ℕ, ◌+◌, ◌*◌, ◌-◌, ◌<◌, ◌≤◌, List, [], ◌∷◌, ◌++◌, map, length, refl, sym, ap, ◌∙◌, arith, lit<, inl, inr, length-append, subst}
 use Rattle.std.specs.List.{flat_map}
 use Rattle.std.proofs.lemmas.Bool.{cases_lt}
 use Rattle.std.proofs.lemmas.List.{length-map}
 use Rattle.bitpack_groups.proofs.ForCallers.{little_len}
+use Rattle.bitpack_slices.proofs.lemmas.bodies.BlockReads.{blocks_counted}
 use Rattle.bitpack_slices.proofs.lemmas.bodies.BlockTests.{blocks_are_blocks, blocks_known}
 use Rattle.bitpack_slices.proofs.lemmas.bodies.JoinLaws.{AreParts, join}
 use Rattle.bitpack_slices.proofs.lemmas.bodies.PartsJoin.{join_parts, parts_are}
 use Rattle.bitpack_slices.proofs.lemmas.slices.BackLaws.{one_slice}
 use Rattle.bitpack_slices.proofs.lemmas.slices.SliceLaws.{slice_few, slice_many, slice_some}
 use Rattle.bitpack_slices.specs.Bodies.{IsRising, bits, blocks, blocks_of, parts, slice}
-use Rattle.bitpack_slices.specs.Slices.{block_numbers}
+use Rattle.bitpack_slices.specs.Slices.{IsBlocks, block_numbers}
 
 pub append_same : (a a' b b' : List ℕ) → length a ≡ length a' → a ++ b ≡ a' ++ b' → (a ≡ a') × (b ≡ b')
 append_same [] [] b b' h e = (refl, e)
@@ -97,3 +98,10 @@ pub blocks_back : (xs : List ℕ) → IsRising 0 65536 xs → 0 < length xs → 
 blocks_back xs r some =
     let (rising, size, same) = blocks_known (length xs) (blocks xs) (blocks_are_blocks xs r some) in
     both_blocks (block_numbers (blocks xs)) xs rising r (omega arith) some same
+
+-- what is written as blocks is blocks
+pub blocks_written : (xs bytes : List ℕ) → IsRising 0 65536 xs → 0 < length xs → bytes ≡ blocks xs → IsBlocks (length (block_numbers bytes)) bytes
+blocks_written xs bytes r some e =
+    let is = blocks_are_blocks xs r some in
+    subst (λ (l : List ℕ). IsBlocks (length (block_numbers l)) l) (sym e)
+    (subst (λ (n : ℕ). IsBlocks n (blocks xs)) (sym (blocks_counted (length xs) (blocks xs) is)) is)

@@ -2,7 +2,7 @@
 use Rattle.std.proofs.Common.{◌≡◌, ◌≢◌, ℕ, suc, ◌+◌, ◌-◌, ◌/◌, ◌%◌, ◌<◌, ◌≤◌, Bool, cond, List, [], ◌∷◌, ◌++◌, map, drop, length, get_or, Some, None, refl, sym, ap, ◌∙◌, arith, eq-eqb, length-append, length-drop}
 use Rattle.std.specs.List.{flat_map}
 use Rattle.std.proofs.lemmas.Bool.{le-leb, lt-leb, ne_eqb}
-use Rattle.std.proofs.lemmas.List.{drop_more, length-map}
+use Rattle.std.proofs.lemmas.List.{drop_more, length-map, nil_from_length}
 use Rattle.bitpack_slices.proofs.lemmas.bodies.TestLaws.{slice_size}
 use Rattle.bitpack_slices.specs.Bodies.{blocks, blocks_of, parts, slice, with_number}
 use Rattle.bitpack_slices.specs.Slices.{first_fall, slice_len}
@@ -65,13 +65,9 @@ pub run_start : (xs : List ℕ) (i high : ℕ) → i + 1 ≡ length xs → high 
 unfolding parts with_number
 run_start xs i high last e =
     let x : ℕ = get_or xs i 0 in
-    let none : drop (i + 1) xs ≡ [] = empty (drop (i + 1) xs) (omega (arith, length-drop (i + 1) xs)) in
+    let none : drop (i + 1) xs ≡ [] = nil_from_length (drop (i + 1) xs) (omega (arith, length-drop (i + 1) xs)) in
     let only : drop i xs ≡ x ∷ [] = drop_more xs i 0 (omega arith) ∙ ap (λ (l : List ℕ). x ∷ l) none in
     record { part = x % 256 ∷ []; others = []; are = ap (parts 256) only ∙ ap (λ (h : ℕ). (h, x % 256 ∷ []) ∷ []) (sym e); count_is = refl; slices_is = refl; size_is = refl }
-  where
-    empty : (l : List ℕ) → length l ≡ 0 → l ≡ []
-    empty [] e = refl
-    empty (y ∷ l) e = absurd (omega arith)
 
 pub run_same : (high count slices size i : ℕ) (xs : List ℕ) → i < length xs → high ≡ get_or xs i 0 / 256 → IsRun high count slices size (drop (i + 1) xs) → IsRun high (count + 1) slices size (drop i xs)
 unfolding parts with_number

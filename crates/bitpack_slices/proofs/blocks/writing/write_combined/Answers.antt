@@ -1,18 +1,16 @@
 -- The blocks are the body: they are shorter than numbers, and have more boundaries than runs.
-use Rattle.std.proofs.Common.{List, ℕ, ◌≡◌, ◌∙◌, ap, arith, false, leb, length, subst, sym, take}
+use Rattle.std.proofs.Common.{Bool, List, ℕ, ◌≡◌, ◌∙◌, ap, arith, false, leb, length, sym, take}
 use Rattle.std.proofs.lemmas.List.{length-take-le}
 use Rattle.bitpack_slices.proofs.lemmas.bits.BitmapLaws.{those_few}
-use Rattle.bitpack_slices.proofs.lemmas.bodies.BlockReads.{blocks_counted}
-use Rattle.bitpack_slices.proofs.lemmas.bodies.BlockTests.{blocks_are_blocks}
 use Rattle.bitpack_slices.proofs.lemmas.bodies.LoadLaws.{those_rise}
-use Rattle.bitpack_slices.proofs.lemmas.bodies.OneBlocks.{blocks_back}
+use Rattle.bitpack_slices.proofs.lemmas.bodies.OneBlocks.{blocks_back, blocks_written}
 use Rattle.bitpack_slices.proofs.lemmas.bodies.OneBody.{body_blocks}
 use Rattle.bitpack_slices.proofs.blocks.writing.write_combined.Goals as goal
 use Rattle.bitpack_slices.specs.Bodies.{blocks}
-use Rattle.bitpack_slices.specs.Operations.{apply, combined}
+use Rattle.bitpack_slices.specs.Operations.{apply, combined, those}
 use Rattle.bitpack_slices.specs.Reads.{has}
 use Rattle.bitpack_slices.specs.Runs.{are_few, boundaries}
-use Rattle.bitpack_slices.specs.Slices.{IsBlocks, block_numbers}
+use Rattle.bitpack_slices.specs.Slices.{block_numbers}
 
 pub overflow_mul-count : goal.overflow_mul-count
 overflow_mul-count c =
@@ -21,11 +19,9 @@ overflow_mul-count c =
 
 pub new-requires : goal.new-requires
 new-requires c =
-    let all : List ℕ = combined 65536 c.args.operation (block_numbers c.args.a.now) (block_numbers c.args.b.now) in
-    let rise = those_rise (λ x. apply c.args.operation (has x (block_numbers c.args.a.now)) (has x (block_numbers c.args.b.now))) 65536 in
-    let is = blocks_are_blocks all rise (omega (arith, c.write_blocks-count.ensures.count, c.if-count-eq0.false)) in
-    subst (λ (l : List ℕ). IsBlocks (length (block_numbers l)) l) (sym (c.write_blocks-count.ensures.written (omega (arith, c.if-count-eq0.false))))
-    (subst (λ (n : ℕ). IsBlocks n (blocks all)) (sym (blocks_counted (length all) (blocks all) is)) is)
+    let p : ℕ → Bool = λ x. apply c.args.operation (has x (block_numbers c.args.a.now)) (has x (block_numbers c.args.b.now)) in
+    blocks_written (those 65536 p) _ (those_rise p 65536) (omega (arith, c.write_blocks-count.ensures.count, c.if-count-eq0.false))
+    (c.write_blocks-count.ensures.written (omega (arith, c.if-count-eq0.false)))
 
 pub returns-clause-written : goal.returns-clause-written
 returns-clause-written c = λ some.

@@ -1,18 +1,15 @@
 -- The bits of the ids are set, and then written.
-use Rattle.std.proofs.Common.{◌≡◌, ◌<◌, ◌%◌, ◌∙◌, List, ℕ, ap, arith, get_or, length, map, subst, sym}
+use Rattle.std.proofs.Common.{◌≡◌, ◌<◌, ◌%◌, ◌∙◌, List, ℕ, ap, arith, get_or, length, map}
 use Rattle.std.proofs.lemmas.List.{get_or-map, length-map}
 use Rattle.bitpack_slices.proofs.lemmas.bits.BitmapLaws.{has_none}
-use Rattle.bitpack_slices.proofs.lemmas.bodies.BlockReads.{blocks_counted}
-use Rattle.bitpack_slices.proofs.lemmas.bodies.BlockTests.{blocks_are_blocks}
 use Rattle.bitpack_slices.proofs.lemmas.bodies.LoadLaws.{has_those, those_rise}
-use Rattle.bitpack_slices.proofs.lemmas.bodies.OneBlocks.{blocks_back}
+use Rattle.bitpack_slices.proofs.lemmas.bodies.OneBlocks.{blocks_back, blocks_written}
 use Rattle.bitpack_slices.proofs.lemmas.bodies.PartLaws.{has_own, some_of}
 use Rattle.bitpack_slices.proofs.listed.Listed.write_blocks.Goals as goal
 use Rattle.bitpack_slices.specs.Bitmaps.{has_bit}
-use Rattle.bitpack_slices.specs.Bodies.{blocks}
 use Rattle.bitpack_slices.specs.Operations.{those}
 use Rattle.bitpack_slices.specs.Reads.{has}
-use Rattle.bitpack_slices.specs.Slices.{IsBlocks, block_numbers}
+use Rattle.bitpack_slices.specs.Slices.{block_numbers}
 
 -- a number of a list has its bit set
 some_set : (ids words : List ℕ) → 0 < length ids → ((x : ℕ) → has_bit words x ≡ has x (map (λ id. id % 65536) ids)) → 0 < length (those 65536 (has_bit words))
@@ -31,10 +28,8 @@ write_blocks-requires c = record { some = some_set _ c.set_bits.new.words c.requ
 
 pub returns-clause-are : goal.returns-clause-are
 returns-clause-are c =
-    let all : List ℕ = those 65536 (has_bit c.set_bits.new.words) in
-    let is = blocks_are_blocks all (those_rise (has_bit c.set_bits.new.words) 65536) (some_set _ c.set_bits.new.words c.requires.some c.set_bits.ensures.bits) in
-    subst (λ (l : List ℕ). IsBlocks (length (block_numbers l)) l) (sym c.write_blocks.ensures.written)
-    (subst (λ (n : ℕ). IsBlocks n (blocks all)) (sym (blocks_counted (length all) (blocks all) is)) is)
+    blocks_written (those 65536 (has_bit c.set_bits.new.words)) _ (those_rise (has_bit c.set_bits.new.words) 65536) (some_set _ c.set_bits.new.words c.requires.some c.set_bits.ensures.bits)
+    c.write_blocks.ensures.written
 
 pub returns-clause-numbers : goal.returns-clause-numbers
 returns-clause-numbers c = λ x small.

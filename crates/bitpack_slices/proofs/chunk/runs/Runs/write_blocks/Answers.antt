@@ -2,10 +2,8 @@
 use Rattle.std.proofs.Common.{◌≡◌, ◌<◌, ◌∙◌, ◌||◌, Bool, List, ℕ, ap, length, replicate, subst, sym}
 use Rattle.std.proofs.Math.Bool.{or-false}
 use Rattle.bitpack_slices.proofs.lemmas.bits.BitmapLaws.{has_none}
-use Rattle.bitpack_slices.proofs.lemmas.bodies.BlockReads.{blocks_counted}
-use Rattle.bitpack_slices.proofs.lemmas.bodies.BlockTests.{blocks_are_blocks}
 use Rattle.bitpack_slices.proofs.lemmas.bodies.LoadLaws.{those_are}
-use Rattle.bitpack_slices.proofs.lemmas.bodies.OneBlocks.{blocks_back}
+use Rattle.bitpack_slices.proofs.lemmas.bodies.OneBlocks.{blocks_back, blocks_written}
 use Rattle.bitpack_slices.proofs.lemmas.bodies.RunLaws.{runs_rise}
 use Rattle.bitpack_slices.proofs.chunk.runs.Runs.write_blocks.Goals as goal
 use Rattle.bitpack_slices.specs.Bitmaps.{has_bit}
@@ -13,7 +11,7 @@ use Rattle.bitpack_slices.specs.Bodies.{IsRising, blocks}
 use Rattle.bitpack_slices.specs.Operations.{those}
 use Rattle.bitpack_slices.specs.Reads.{has}
 use Rattle.bitpack_slices.specs.Runs.{runs_from}
-use Rattle.bitpack_slices.specs.Slices.{IsBlocks, block_numbers, pairs_of}
+use Rattle.bitpack_slices.specs.Slices.{block_numbers, pairs_of}
 
 -- all are set
 loaded : (bytes words : List ℕ) → IsRising 0 65536 (pairs_of bytes) → ((x : ℕ) → x < 65536 → has_bit words x ≡ (has x (runs_from 0 bytes) || has_bit (replicate 1024 0) x))
@@ -30,10 +28,8 @@ write_blocks-requires c =
 pub returns-clause-are : goal.returns-clause-are
 returns-clause-are c =
     let bytes : List ℕ = c.args.self.bounds.now in
-    let same = loaded bytes c.set_bits.new.words c.args.self.rising c.set_bits.ensures in
-    let is = blocks_are_blocks (runs_from 0 bytes) (runs_rise 0 (pairs_of bytes) c.args.self.rising) c.requires.some in
-    subst (λ (l : List ℕ). IsBlocks (length (block_numbers l)) l) (sym (c.write_blocks.ensures.written ∙ ap blocks same))
-    (subst (λ (n : ℕ). IsBlocks n (blocks (runs_from 0 bytes))) (sym (blocks_counted (length (runs_from 0 bytes)) (blocks (runs_from 0 bytes)) is)) is)
+    blocks_written (runs_from 0 bytes) _ (runs_rise 0 (pairs_of bytes) c.args.self.rising) c.requires.some
+    (c.write_blocks.ensures.written ∙ ap blocks (loaded bytes c.set_bits.new.words c.args.self.rising c.set_bits.ensures))
 
 pub returns-clause-numbers : goal.returns-clause-numbers
 returns-clause-numbers c =

@@ -1,7 +1,7 @@
 -- The list is combined as blocks.
 use Rattle.std.proofs.Common.{List, ℕ, ◌<◌, ◌%◌, ◌≡◌, IfSome, length, map, refl, subst, take}
 use Rattle.bitpack_slices.proofs.lemmas.numbers.AnswerLaws.{combined_has}
-use Rattle.bitpack_slices.proofs.body.writing.write_right.Goals as goal
+use Rattle.bitpack_slices.proofs.body.writing.write_listed.Goals as goal
 use Rattle.bitpack_slices.specs.Body.{body}
 use Rattle.bitpack_slices.specs.Lists.{listed_ids}
 use Rattle.bitpack_slices.specs.Slices.{block_numbers}
