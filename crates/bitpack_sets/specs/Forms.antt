@@ -33,6 +33,8 @@ pub record IsArray (set : IdSet) (rest : List ℕ) : Type 0 where
 
 pub record IsChunks (set : IdSet) (directory : Directory) : Type 0 where
   pub chunks : slice_index (encoding_of set) 0 ≡ 5
+  pub chunks_are : directory.chunks ≡ set.chunks
+  pub rest_is : directory.rest.now ≡ set.rest.now
   pub ids_are : directory_ids directory ≡ ids set
   pub count_is : directory.count ≡ length (ids set)
 

@@ -8,6 +8,7 @@ pub mod Fronts
 pub mod Laws
 pub mod Opened
 pub mod Pairs
+pub mod Places
 pub mod Ranges
 pub mod Reads
 pub mod Rooms

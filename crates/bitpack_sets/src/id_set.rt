@@ -8,6 +8,7 @@ ghost use Rattle.bitpack_sets.specs.Stated.{States};
 
 use crate::array::{in_array, rank_in_array, seek_in_array, unpack_array};
 use crate::chunks::Chunks;
+use crate::cursor::Cursor;
 use crate::few::MOST_FEW;
 use crate::form::Form;
 use crate::ids::Ids;
@@ -172,7 +173,7 @@ impl<'a> IdSet<'a> {
     }
 
     /// How many ids are below `target`, and the first that is not, if there is one.
-    fn place_of(&self, target: u32) -> (usize, Option<u32>)
+    pub(crate) fn place_of(&self, target: u32) -> (usize, Option<u32>)
         ensures rank { result.0 ≡ rank target (ids self.now) }
         ensures first { result.1 ≡ slice_get (ids self.now) result.0 }
     {
@@ -190,6 +191,14 @@ impl<'a> IdSet<'a> {
         ensures { drop result.next (ids result.set) ≡ ids self.now }
     {
         Ids::new(*self)
+    }
+
+    /// A cursor at the first id.
+    pub fn cursor(&self) -> Cursor<'a>
+        ensures set { ids result.set ≡ ids self.now }
+        ensures position { result.position ≡ 0 }
+    {
+        Cursor::new(*self)
     }
 
     /// The last id, or 0 if there is none.
@@ -288,7 +297,7 @@ impl<'a> IdSet<'a> {
         count
     }
 
-    fn unpack_from(&self, from: usize, out: &mut [u32])
+    pub(crate) fn unpack_from(&self, from: usize, out: &mut [u32])
         requires begin { from < length (ids self.now) }
         requires within { from + length out.old ≤ length (ids self.now) }
         ensures { out.new ≡ take (length out.old) (drop from (ids self.now)) }

@@ -3,6 +3,7 @@
 ghost use Rattle.std.specs.Prelude.{◌≡◌, ◌+◌, ◌-◌, ◌<◌, ◌≤◌, IfSome, None, drop, length, slice_index, take};
 ghost use Rattle.bitpack_sets.specs.Opened.{ids};
 
+use crate::cursor::Cursor;
 use crate::id_set::IdSet;
 
 /// How many ids are unpacked at once. On a Xeon of model 85, it takes 1.3 to 1.6 times as long to add 20,000 ids or more with 64, 1.1 to 1.3
@@ -13,15 +14,17 @@ const MOST_UNPACKED: usize = 256;
 #[derive(Drop)]
 pub struct Ids<'a> {
     pub(crate) set: IdSet<'a>,
-    // The position of the next id, and where the ids begin and end that are unpacked.
+    // The positions of the next id and of the first unpacked id. The cursor is after the last unpacked id.
     pub(crate) next: usize,
     begin: usize,
     end: usize,
+    cursor: Cursor<'a>,
     unpacked: [u32; MOST_UNPACKED],
     ghost after: { begin ≤ next },
     ghost before: { next ≤ end },
     ghost room: { end ≤ begin + 256 },
-    ghost within: { end ≤ length (ids set) },
+    ghost at: { cursor.position ≡ end },
+    ghost same: { ids cursor.set ≡ ids set },
     ghost values: { take (end - begin) unpacked ≡ take (end - begin) (drop begin (ids set)) },
 }
 
@@ -36,6 +39,7 @@ impl<'a> Ids<'a> {
             next: 0,
             begin: 0,
             end: 0,
+            cursor: Cursor::new(set),
             unpacked: [0; MOST_UNPACKED],
         }
     }
@@ -73,11 +77,14 @@ impl<'a> Ids<'a> {
         ensures set { self.new.set ≡ self.old.set }
         ensures next { self.new.next ≡ position }
     {
-        if position > self.end {
-            self.begin = position;
-            self.end = position;
+        if position <= self.end {
+            self.next = position;
+            return;
         }
+        self.cursor.skip_to(position);
         self.next = position;
+        self.begin = position;
+        self.end = position;
     }
 
     // Unpacks the next ids once it has returned all that are unpacked.
@@ -93,14 +100,16 @@ impl<'a> Ids<'a> {
         self.unpack();
     }
 
+    #[inline(always)]
     fn unpack(&mut self)
+        requires { self.old.end ≤ self.old.next }
         ensures set { self.new.set ≡ self.old.set }
         ensures next { self.new.next ≡ self.old.next }
         ensures some { self.new.end ≤ self.new.next → length (ids self.new.set) ≤ self.new.next }
     {
-        let count = self.set.copy_range(self.next, &mut self.unpacked);
+        self.cursor.fill(&mut self.unpacked);
         self.begin = self.next;
-        self.end = self.next + count;
+        self.end = self.cursor.position();
     }
 }
 

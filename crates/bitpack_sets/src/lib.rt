@@ -4,12 +4,14 @@
 mod appending;
 mod array;
 mod as_set;
+mod cursor;
 mod decoding;
 mod directory;
 mod form;
 mod ids;
 pub mod laws;
 mod opening;
+mod place;
 mod searching;
 mod set_builder;
 mod varints;
@@ -26,6 +28,7 @@ pub mod reserved;
 
 pub use appending::{append, append_to};
 pub use as_set::AsSet;
+pub use cursor::Cursor;
 pub use encoding::order::{first_unsorted, test_pushed};
 pub use encoding::range::{encode_range_to, encoded_range_len};
 pub use encoding::{encode, encode_to, encoded_len};

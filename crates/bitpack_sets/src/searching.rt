@@ -5,6 +5,7 @@ ghost use Rattle.std.specs.Prelude.{◌≡◌, ◌+◌, ◌*◌, ◌/◌, ◌%�
 ghost use Rattle.bitpack_sets.specs.Directory.{before, body_at, body_numbers_of, count_at};
 ghost use Rattle.bitpack_sets.specs.Forms.{directory_ids};
 ghost use Rattle.bitpack_slices.specs.Lows.{AreLows, lows};
+ghost use Rattle.bitpack_slices.specs.Places.{counts_of};
 ghost use Rattle.bitpack_slices.specs.Reads.{has, rank};
 ghost use Rattle.bitpack_slices.specs.Slices.{pairs_of};
 
@@ -14,9 +15,11 @@ use bitpack_slices::chunk::runs::{Runs, begins_runs};
 use bitpack_slices::chunk::search::{number_at, rank_in_numbers};
 
 impl<'a> Directory<'a> {
+    ghost use Rattle.bitpack_sets.specs.Places.{body_counts_of};
+
     /// How many chunks have a lower key, and whether a chunk has this key.
     #[inline(always)]
-    fn find(self, key: u16) -> (usize, bool)
+    pub(crate) fn find(self, key: u16) -> (usize, bool)
         ensures few { result.0 ≤ self.entry.chunks }
         ensures chunk { result.0 ≡ rank key (pairs_of (take (2 * self.entry.chunks) (drop 1 self.entry.rest.now))) }
         ensures there { result.1 ≡ has key (pairs_of (take (2 * self.entry.chunks) (drop 1 self.entry.rest.now))) }
@@ -80,7 +83,7 @@ impl<'a> Directory<'a> {
     }
 
     /// The first id of a chunk, if there is such a chunk.
-    fn first_at(self, chunk: usize) -> Option<u32>
+    pub(crate) fn first_at(self, chunk: usize) -> Option<u32>
         requires within { chunk ≤ self.chunks }
         ensures { result ≡ slice_get (directory_ids self.entry) (before (Rattle.bitpack_sets.specs.Directory.sum_at self.entry.chunks self.entry.rest.now) chunk) }
     {
@@ -141,6 +144,7 @@ impl<'a> Directory<'a> {
         requires within { chunk < self.chunks }
         ensures are { AreLows result }
         ensures count { length (lows result) ≡ count_at self.entry.chunks self.entry.rest.now chunk }
+        ensures counts { counts_of result ≡ body_counts_of (count_at self.entry.chunks self.entry.rest.now chunk) (body_at self.entry.chunks self.entry.rest.now chunk) }
         ensures lows { lows result ≡ body_numbers_of (count_at self.entry.chunks self.entry.rest.now chunk) (body_at self.entry.chunks self.entry.rest.now chunk) }
     {
         let body = self.body(chunk);

@@ -1,8 +1,10 @@
 -- What is looked up in a set, and its ids from a position on.
 pub mod ChunkReads
 pub mod HalfLaws
+pub mod HeldLaws
 pub mod JoinReads
 pub mod KeyLaws
 pub mod PositionLaws
 pub mod RangeLaws
+pub mod SoughtLaws
 pub mod WalkLaws

@@ -1,7 +1,8 @@
 -- The body of a chunk is numbers, runs or blocks.
-use Rattle.std.proofs.Common.{◌∙◌, ap, length, sym, subst, ℕ, List}
+use Rattle.std.proofs.Common.{◌∙◌, ap, length, sym, subst, true, false, ℕ, List}
 use Rattle.bitpack_slices.specs.Bodies.{IsRising}
 use Rattle.bitpack_sets.proofs.lemmas.reads.ChunkReads.{blocks_known, numbers_known, runs_of}
+use Rattle.bitpack_sets.proofs.lemmas.reads.HeldLaws.{counts_of_numbers, counts_of_others}
 use Rattle.bitpack_sets.proofs.directory.Directory.lows.Goals as goal
 
 pub returns-then-body-count_of-clause-are : goal.returns-then-body-count_of-clause-are
@@ -34,3 +35,14 @@ returns-clause-lows c =
 pub returns-clause-count : goal.returns-clause-count
 returns-clause-count c =
     (blocks_known c.args.self.count c.args.self.chunks c.args.chunk c.count_of.result c.args.self.rest.now c.body-body.result.now (record { is = c.args.self.sound; within = c.requires.within; count_is = c.count_of.ensures; body_is = c.body-body.ensures }) c.if-body-count_of.false (sym c.begins_runs.ensures ∙ c.if-begins_runs.false)).size
+
+pub returns-then-body-count_of-clause-counts : goal.returns-then-body-count_of-clause-counts
+returns-then-body-count_of-clause-counts c = counts_of_numbers c.args.self.chunks c.args.chunk _ c.args.self.rest.now _ c.count_of.ensures c.body-body.ensures c.if-body-count_of.true
+
+pub returns-then-begins_runs-clause-counts : goal.returns-then-begins_runs-clause-counts
+returns-then-begins_runs-clause-counts c =
+    counts_of_others c.args.self.chunks c.args.chunk _ c.args.self.rest.now _ true c.count_of.ensures c.body-body.ensures c.if-body-count_of.false (sym c.begins_runs.ensures ∙ c.if-begins_runs.true)
+
+pub returns-clause-counts : goal.returns-clause-counts
+returns-clause-counts c =
+    counts_of_others c.args.self.chunks c.args.chunk _ c.args.self.rest.now _ false c.count_of.ensures c.body-body.ensures c.if-body-count_of.false (sym c.begins_runs.ensures ∙ c.if-begins_runs.false)

@@ -1,64 +1,9 @@
--- The ids of one chunk more are written.
-use Rattle.std.proofs.Common.{◌≡◌, ◌+◌, ◌-◌, ◌*◌, ◌∙◌, ℕ, List, ap, arith, drop, length, map, min, subst, sym, take, refl}
-use Rattle.std.proofs.Math.Nat.{min-le_left, min-le_right}
-use Rattle.std.proofs.lemmas.List.{take_all}
-use borrow.Rule.Slice.PartMut.{same_len_mid}
-use Rattle.bitpack_sets.specs.Directory.{body_at, body_numbers_of, chunk_ids, count_at, key_at}
-use Rattle.bitpack_slices.proofs.ForCallers.{bytes_are, min_less, part_written}
-use Rattle.bitpack_sets.proofs.lemmas.reads.RangeLaws.{AtChunk, chunk_passed, chunk_range}
+-- It begins at the first chunk.
+use Rattle.std.proofs.Common.{arith}
 use Rattle.bitpack_sets.proofs.directory.Directory.unpack_from.Goals as goal
-use Rattle.bitpack_groups.proofs.ForCallers.{lent_len}
 
-pub loop-next-init : goal.loop-next-init
-loop-next-init c =
-    let from = c.chunk_of-chunk.ensures.from in
-    let below = c.chunk_of-chunk.ensures.below in
-    let at = c.count_before.ensures in
-    record {
-      long = refl;
-      within = omega arith;
-      here = λ some. record { within = c.chunk_of-chunk.ensures.chunk; own = omega arith; passed = omega arith };
-      values = refl;
-    }
+pub unpack_at-requires-clause-place : goal.unpack_at-requires-clause-place
+unpack_at-requires-clause-place c = c.first.ensures.place c.args.self.chunks c.args.self.rest.now c.args.self.sound.some
 
-pub loop-next-preserved : goal.loop-next-preserved
-loop-next-preserved c =
-    let rest : List ℕ = c.args.self.rest.now in
-    let chunks : ℕ = c.args.self.chunks in
-    let from : ℕ = c.args.from in
-    let out : List ℕ = c.loop-next.out in
-    let m : ℕ = c.loop-next.chunk in
-    let left : ℕ = c.loop-next.left in
-    let next : ℕ = c.loop-next.next in
-    let wanted : ℕ = c.min-wanted.result in
-    let at = c.loop-next.invariant.here c.loop-next-test.true in
-    let within = c.loop-next.invariant.within in
-    let long = c.loop-next.invariant.long in
-    let own = at.own in
-    let few : wanted ≡ min (count_at chunks rest m - left) (length out - next) = c.min-wanted.ensures ∙ ap (λ (k : ℕ). min (k - left) (length out - next)) c.count_of-own.ensures in
-    let low = min-le_left (count_at chunks rest m - left) (length out - next) in
-    let high = min-le_right (count_at chunks rest m - left) (length out - next) in
-    let mid : length (take (next + wanted - next) (drop next out)) ≡ wanted = lent_len next wanted out (omega arith) in
-    let same = same_len_mid next (next + wanted - next) out c.unpack_chunk_from.new.out c.unpack_chunk_from.auto.out in
-    let part = c.unpack_chunk_from.ensures
-    ∙ ap (λ (k : ℕ). map (λ low. key_at rest m * 65536 + low) (take k (drop left (body_numbers_of (count_at chunks rest m) (body_at chunks rest m))))) mid
-    ∙ sym (chunk_range c.args.self.count chunks m left wanted (from + next) rest (bytes_are rest c.args.self.are_bytes) c.args.self.sound at.within (omega arith) at.passed) in
-    record {
-      long = same ∙ long;
-      within = omega arith;
-      here = λ more.
-          let w : wanted ≡ count_at chunks rest m - left = few ∙ min_less (count_at chunks rest m - left) (length out - next) (omega arith) in
-          let after : from + next + wanted ≡ from + (next + wanted) = omega arith in
-          let room = c.requires.within in
-          subst (AtChunk chunks rest (m + 1) 0) after (chunk_passed c.args.self.count chunks rest m left (from + next) wanted c.args.self.sound at w (omega arith));
-      values = part_written next wanted (next + wanted - next) from out c.unpack_chunk_from.new.out (chunk_ids chunks rest) within (c.unpack_chunk_from.auto.out ∙ mid)
-          c.loop-next.invariant.values part;
-    }
-
-pub returns : goal.returns
-returns c =
-    let long = c.loop-next.invariant.long in
-    let within = c.loop-next.invariant.within in
-    let end : c.loop-next.next ≡ length c.args.out.now = omega (arith, c.loop-next-test.false) in
-    sym (take_all c.loop-next.next c.loop-next.out (omega arith)) ∙ c.loop-next.invariant.values
-    ∙ ap (λ (k : ℕ). take k (drop c.args.from (chunk_ids c.args.self.chunks c.args.self.rest.now))) end
+pub unpack_at-requires-clause-after : goal.unpack_at-requires-clause-after
+unpack_at-requires-clause-after c = omega (arith, c.first.ensures.first c.args.self.chunks c.args.self.rest.now)

@@ -1,5 +1,5 @@
 -- What byte 0 and the counts state.
-use Rattle.std.proofs.Common.{◌≡◌, ◌≢◌, ◌*◌, ◌^◌, ◌∙◌, ℕ, ap, arith, drop, get_or, length, rules, subst, sym}
+use Rattle.std.proofs.Common.{◌≡◌, ◌≢◌, ◌*◌, ◌^◌, ◌∙◌, ℕ, ap, arith, drop, get_or, length, refl, rules, subst, sym}
 use Rattle.bitpack_groups.proofs.ForCallers.{AreBytes-drop}
 use Rattle.bitpacking.specs.Bits.{AreBytes}
 use Rattle.bitpack_slices.specs.Bodies.{IsRising}
@@ -54,7 +54,7 @@ pub returns-in-5 : goal.returns-in-5
 returns-in-5 c =
     let set = c.args.self.now in
     let is = stated_chunks set.bytes.now set.rest.now set.count set.chunks set.are_bytes set.states c.in-5.is in
-    record { chunks = c.in-5.is; ids_are = sym is.ids_are; count_is = count_is set }
+    record { chunks = c.in-5.is; chunks_are = refl; rest_is = refl; ids_are = sym is.ids_are; count_is = count_is set }
 
 pub returns-in-6 : goal.returns-in-6
 returns-in-6 c =

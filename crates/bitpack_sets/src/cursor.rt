@@ -1,0 +1,125 @@
+//! A position among the ids of a set, which only moves forward.
+
+ghost use Rattle.std.specs.Prelude.{◌≡◌, ◌+◌, ◌-◌, ◌<◌, ◌≤◌, drop, length, max, min, slice_get, slice_index, take};
+ghost use Rattle.std.proofs.Props.{props};
+ghost use Rattle.bitpack_sets.specs.Opened.{encoding_of, ids};
+ghost use Rattle.bitpack_sets.specs.Places.{Holds};
+ghost use Rattle.bitpack_slices.specs.Reads.{rank};
+
+use crate::form::Form;
+use crate::id_set::IdSet;
+use crate::place::ChunkPlace;
+
+/// A position among the ids of a set, which only moves forward. It remembers the slice that it reached, so that no call begins at the first one again.
+#[derive(Clone, Copy)]
+pub struct Cursor<'a> {
+    pub(crate) set: IdSet<'a>,
+    pub(crate) position: usize,
+    // A slice that is not after the position, if the set is in chunks.
+    at: ChunkPlace,
+    ghost within: { position ≤ length (ids set) },
+    ghost holds: { slice_index (encoding_of set) 0 ≡ 5 → Holds set.chunks set.rest.now at position } by { Prim.hlevel props },
+}
+
+impl<'a> Cursor<'a> {
+    /// The position of the first id of a set.
+    #[inline(always)]
+    pub(crate) fn new(set: IdSet<'a>) -> Cursor<'a>
+        ensures set { result.set ≡ set.entry }
+        ensures position { result.position ≡ 0 }
+    {
+        Cursor {
+            set,
+            position: 0,
+            at: ChunkPlace::first(),
+        }
+    }
+
+    /// How many ids are before the position.
+    #[inline(always)]
+    pub fn position(&self) -> usize
+        ensures { result ≡ self.now.position }
+    {
+        self.position
+    }
+
+    /// Moves to a later position.
+    #[inline(always)]
+    pub(crate) fn skip_to(&mut self, position: usize)
+        requires later { self.old.position ≤ position }
+        requires within { position ≤ length (ids self.old.set) }
+        ensures set { self.new.set ≡ self.old.set }
+        ensures position { self.new.position ≡ position }
+    {
+        self.position = position;
+    }
+
+    /// Writes the ids from the position on at the start of the slice, as many as there are and it has room for, and moves after them. Returns how many
+    /// it wrote, which is 0 only after the last id or if there is no room.
+    ///
+    /// The rest of the slice is unchanged. Allocates nothing, and looks only into bodies that have such ids.
+    // Not inlined: with this code in it, an iterator takes longer for each id.
+    #[inline(never)]
+    pub fn fill(&mut self, out: &mut [u32]) -> usize
+        ensures set { self.new.set ≡ self.old.set }
+        ensures len { result ≡ min (length out.old) (length (ids self.old.set) - self.old.position) }
+        ensures ids { take result out.new ≡ take result (drop self.old.position (ids self.old.set)) }
+        ensures rest { drop result out.new ≡ drop result out.old }
+        ensures position { self.new.position ≡ self.old.position + result }
+    {
+        let count = out.len().min(self.set.len() - self.position);
+        if count == 0 {
+            return 0;
+        }
+        self.at = self.unpack(&mut out[..count]);
+        self.position += count;
+        count
+    }
+
+    /// Writes the ids from the position on. Returns a slice that is not after their end.
+    fn unpack(&self, out: &mut [u32]) -> ChunkPlace
+        requires some { self.now.position < length (ids self.now.set) }
+        requires within { self.now.position + length out.old ≤ length (ids self.now.set) }
+        ensures ids { out.new ≡ take (length out.old) (drop self.now.position (ids self.now.set)) }
+        ensures holds { slice_index (encoding_of self.now.set) 0 ≡ 5 → Holds self.now.set.chunks self.now.set.rest.now result (self.now.position + length out.old) }
+    {
+        if let Form::Chunks(directory) = self.set.form() {
+            return directory.unpack_at(self.at, self.position, out);
+        }
+        self.set.unpack_from(self.position, out);
+        self.at
+    }
+
+    /// Moves to the first id from the position on that is at least `target`, and returns it. It is `None`, and the position after the last id, exactly
+    /// if there is none. Does not move if the id at the position is at least `target`.
+    #[inline(always)]
+    pub fn seek(&mut self, target: u32) -> Option<u32>
+        ensures set { self.new.set ≡ self.old.set }
+        ensures position { self.new.position ≡ max self.old.position (rank target (ids self.old.set)) }
+        ensures id { result ≡ slice_get (ids self.old.set) self.new.position }
+    {
+        let (at, position, id) = self.find(target);
+        if position < self.position {
+            return self.set.select(self.position);
+        }
+        self.at = at;
+        self.position = position;
+        id
+    }
+
+    /// How many ids are below `target`, or at most as many as are before the position, and the id there, if there is one. Also returns a slice that is
+    /// not after it, or not after the position.
+    #[inline(always)]
+    fn find(&self, target: u32) -> (ChunkPlace, usize, Option<u32>)
+        ensures holds { slice_index (encoding_of self.now.set) 0 ≡ 5 → Holds self.now.set.chunks self.now.set.rest.now result.0 (max self.now.position result.1) }
+        ensures least { rank target (ids self.now.set) ≤ result.1 }
+        ensures most { result.1 ≤ max self.now.position (rank target (ids self.now.set)) }
+        ensures first { result.2 ≡ slice_get (ids self.now.set) result.1 }
+    {
+        if let Form::Chunks(directory) = self.set.form() {
+            return directory.seek_at(self.at, target);
+        }
+        let (position, id) = self.set.place_of(target);
+        (self.at, position, id)
+    }
+}
