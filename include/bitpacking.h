@@ -428,7 +428,7 @@ int32_t bitpacking_set_seek(const bitpacking_set *view, uint32_t target, size_t 
 
 /* Calls that combine any number of views of sets. They write the ids in increasing order to the front of ids, and return their number; without
  * views it is 0. A view may be there twice, and one that was not opened is the empty set. They take about 25 KB of stack for two views, and
- * about 80 KB for more. After the ids, any item of ids may have changed: store nothing else there.
+ * about 120 KB for more. After the ids, any item of ids may have changed: store nothing else there.
  *
  *     SHORT         there is no room for the ids. Any item of ids may have changed then too
  */
@@ -523,7 +523,7 @@ ptrdiff_t bitpacking_set_query(const bitpacking_set *views, size_t views_len, co
 /* Writes the set that the first set gives, combined with each other in turn, at the start of bytes, and returns its number of bytes: what
  * bitpacking_set_pack writes of its ids. The operation is BITPACKING_AND, _OR, _AND_NOT or _XOR. If there is no set, it has no id. Large sets are
  * combined chunk by chunk, and not unpacked. bytes may not overlap the bytes of the sets. Bytes after the set may have changed, and any byte if the
- * call fails. A call takes about 130 KB of stack.
+ * call fails. A call takes about 160 KB of stack.
  *
  * room is work space, which may hold anything: as many items as bitpacking_set_combine_room returns for the sets. The call may change any item. Room
  * for the bytes of all sets, and 8500 more, is usually enough. If the call returns SHORT, double the room:

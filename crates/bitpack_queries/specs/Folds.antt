@@ -1,7 +1,8 @@
 -- Sets that are combined from the first to the last, some keys at a time.
-use Rattle.std.specs.Prelude.{ℕ, ◌+◌, ◌*◌, ◌/◌, ◌%◌, ◌&&◌, ◌||◌, Bool, true, false, List, [], map, set, slice_index_or}
+use Rattle.std.specs.Prelude.{◌≡◌, ℕ, ◌+◌, ◌*◌, ◌/◌, ◌%◌, ◌<◌, ◌≤◌, ◌&&◌, ◌||◌, Bool, true, false, List, [], map, set, slice_index_or}
 use Rattle.bitpack_slices.specs.Bitmaps.{has_bit}
 use Rattle.bitpack_slices.specs.Operations.{apply, those}
+use Rattle.bitpack_slices.specs.Reads.{has}
 use Rattle.bitpack_slices.specs.declared.operation.Operation.{Operation}
 
 -- a number is one of a key's: its high byte occurs, and its bit is 1
@@ -28,3 +29,7 @@ joined false operation a b = apply operation a b
 -- the first and another are exchanged
 unfoldable pub swapped : ℕ → List (List ℕ) → List (List ℕ)
 swapped first sets = set (set sets 0 (slice_index_or sets first [])) first (slice_index_or sets 0 [])
+
+-- of each set a key is held, an eighth of it: from `base` on and below it the set has no id
+abbrev pub AreHeld : List ℕ → ℕ → List (List ℕ) → Type 0
+AreHeld held base sets = (i x : ℕ) → base ≤ x / 65536 → x / 65536 < 8 * slice_index_or held i 0 → has x (slice_index_or sets i []) ≡ false

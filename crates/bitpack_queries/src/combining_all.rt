@@ -6,7 +6,7 @@ ghost use Rattle.bitpack_slices.specs.Operations.{those};
 ghost use Rattle.bitpack_queries.specs.Operations.{answer_all};
 
 use crate::combining::{combine_count, combine_to};
-use crate::folding::{KEYS, combine_keys};
+use crate::folding::{HELD, KEYS, combine_keys};
 use crate::in_place::retain_if;
 use bitpack_sets::chunks::NO_KEY;
 use bitpack_sets::{AsSet, IdSet};
@@ -186,10 +186,13 @@ fn fold_to<S: AsSet>(operation: Operation, sets: &[S], out: &mut [u32]) -> Resul
     let first = first_of(operation, sets);
     let mut highs = [[0; 4]; KEYS];
     let mut words = [[0; 1024]; KEYS];
+    let mut held = [0; HELD];
     let mut base = 0;
     let mut at = 0;
     while base < NO_KEY {
-        let next = combine_keys(operation, sets, first, base, &mut highs, &mut words);
+        let next = combine_keys(
+            operation, sets, first, base, &mut held, &mut highs, &mut words,
+        );
         let Some(end) = unpack_keys(&highs, &words, base, out, at) else {
             return Err(SetError::Short);
         };
@@ -237,10 +240,13 @@ fn fold_count<S: AsSet>(operation: Operation, sets: &[S]) -> u64
     let first = first_of(operation, sets);
     let mut highs = [[0; 4]; KEYS];
     let mut words = [[0; 1024]; KEYS];
+    let mut held = [0; HELD];
     let mut base = 0;
     let mut count = 0;
     while base < NO_KEY {
-        let next = combine_keys(operation, sets, first, base, &mut highs, &mut words);
+        let next = combine_keys(
+            operation, sets, first, base, &mut held, &mut highs, &mut words,
+        );
         count += count_keys(&highs, &words);
         base = next / 8 * 8;
     }

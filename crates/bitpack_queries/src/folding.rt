@@ -1,9 +1,9 @@
 //! Combines sets from the first to the last, some keys at a time.
 
-ghost use Rattle.std.specs.Prelude.{◌≡◌, ◌≢◌, ℕ, ◌+◌, ◌*◌, ◌/◌, ◌%◌, ◌<◌, ◌≤◌, ◌&&◌, ◌||◌, ◌==◌, false, true, length, map};
+ghost use Rattle.std.specs.Prelude.{◌≡◌, ◌≢◌, ℕ, ◌+◌, ◌*◌, ◌/◌, ◌%◌, ◌<◌, ◌≤◌, ◌&&◌, ◌||◌, ◌==◌, false, true, length, map, slice_index_or};
 ghost use Rattle.bitpack_slices.specs.Bitmaps.{has_bit};
 ghost use Rattle.bitpack_sets.specs.Chunks.{lows_between, positions};
-ghost use Rattle.bitpack_queries.specs.Folds.{found, has_number, high_of, joined, swapped};
+ghost use Rattle.bitpack_queries.specs.Folds.{AreHeld, found, has_number, high_of, joined, swapped};
 ghost use Rattle.bitpack_sets.specs.Opened.{ids};
 ghost use Rattle.bitpack_slices.specs.Operations.{apply};
 ghost use Rattle.bitpack_queries.specs.Operations.{folded};
@@ -20,26 +20,34 @@ use bitpack_slices::bitmap::combining::combine;
 use bitpack_slices::bitmap::loading::clear;
 use bitpack_slices::bitmap::single_bits::{set_bit, test_bit};
 use bitpack_slices::bitmap::unpacking::unpack_bits;
-use bitpack_slices::combined::{combined_words, lowest_key, retains_right};
+use bitpack_slices::combined::{combined_words, lowest_key, retains_left, retains_right};
 
 /// How many keys are combined at a time, from a multiple of it on. A call takes 1.0 to 1.8 times as many instructions with 4, and 0.6 to
 /// 1.05 times with 16, which needs 64 KB more stack.
 pub(crate) const KEYS: usize = 8;
 
+/// How many sets have a next key held. Without, OR of 1,000 sets of 1,000 ids below 2 to the power of 32 takes 7 times as long.
+pub(crate) const HELD: usize = 16384;
+
 /// Leaves the ids of the answer that have one of the keys from `base` on: for each key high bytes, and a bit for each id that has one of
 /// these. The first set and another are exchanged. Returns a later key, at most `NO_KEY`, below which the answer has no other id.
+///
+/// An eighth of the next key of a set is held, so that the set is not searched again before this key.
 pub(crate) fn combine_keys<S: AsSet>(
     operation: Operation,
     sets: &[S],
     first: usize,
     base: u32,
+    held: &mut [u16; HELD],
     highs: &mut [[u64; 4]; KEYS],
     words: &mut [[u64; 1024]; KEYS],
 ) -> u32
     requires first { first < length sets.now }
     requires base { base + 8 ≤ 65536 }
+    requires held { AreHeld held.old base (swapped first (map S.its_ids sets.now)) }
     ensures later { base + 8 ≤ result }
     ensures most { result ≤ 65536 }
+    ensures held { AreHeld held.new (base + 8) (swapped first (map S.its_ids sets.now)) }
     ensures own { (i : ℕ) → i < 524288 → found highs.new words.new i
         ≡ folded operation (map (has (base * 65536 + i)) (swapped first (map S.its_ids sets.now))) }
     ensures none { (x : ℕ) → base + 8 ≤ x / 65536 → x / 65536 < result
@@ -49,12 +57,54 @@ pub(crate) fn combine_keys<S: AsSet>(
     let start = &sets[first].as_set();
     let mut next = add_chunks(operation, true, start, base, highs, words, &mut others);
     for i in 1..sets.len() {
-        let index = if i == first { 0 } else { i };
-        let set = &sets[index].as_set();
-        let own = add(operation, set, base, highs, words, &mut others);
+        let known = held_key(held, i);
+        let own = if stay(operation, base, known) {
+            known
+        } else {
+            let index = if i == first { 0 } else { i };
+            let set = &sets[index].as_set();
+            let own = add(operation, set, base, highs, words, &mut others);
+            hold(held, i, own);
+            own
+        };
         next = lowest_key(operation, next, own);
     }
     next
+}
+
+/// Whether the ids of the keys from `base` on stay when they are combined with a set that has none of these keys, but from `key` on.
+#[inline(always)]
+fn stay(operation: Operation, base: u32, key: u32) -> bool
+    requires { base + 8 ≤ 65536 }
+    ensures later { result ≡ true → base + 8 ≤ key }
+    ensures left { result ≡ true → apply operation true false ≡ true }
+{
+    retains_left(operation) && base + 8 <= key
+}
+
+/// The key that is held of a set, or 0.
+#[inline(always)]
+fn held_key(held: &[u16; HELD], i: usize) -> u32
+    ensures held { result ≤ 8 * slice_index_or held.now i 0 }
+    ensures most { result ≤ 65536 }
+{
+    if i < HELD {
+        (held[i] as u32 * 8).min(NO_KEY)
+    } else {
+        0
+    }
+}
+
+/// Holds a key of a set, if there is room.
+#[inline(always)]
+fn hold(held: &mut [u16; HELD], i: usize, key: u32)
+    requires { key ≤ 65536 }
+    ensures own { 8 * slice_index_or held.new i 0 ≤ key }
+    ensures others { (j : ℕ) → j ≢ i → slice_index_or held.new j 0 ≡ slice_index_or held.old j 0 }
+{
+    if i < HELD {
+        held[i] = (key / 8) as u16;
+    }
 }
 
 /// Combines the ids of a set that have one of the keys from `base` on. Returns the next key of the set.
@@ -189,6 +239,9 @@ fn add_chunk(
     ensures { (x : ℕ) → x < 65536 → has_number highs.new words.new x
         ≡ apply operation (has_number highs.old words.old x) (has x (lows_between set.now position end)) }
 {
+    if position == end && retains_left(operation) {
+        return;
+    }
     let own = set.highs(position, end);
     if retains_right(operation) {
         let mut fresh = [0; 256];

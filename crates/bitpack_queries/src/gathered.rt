@@ -25,15 +25,15 @@ use bitpack_slices::{Operation, SetError};
 
 /// How many ids and chunks a set has so far, and how many bytes their bodies.
 #[derive(Clone, Copy)]
-pub(crate) struct Gathered {
-    pub(crate) count: usize,
-    pub(crate) chunks: usize,
-    pub(crate) size: usize,
+pub struct Gathered {
+    pub count: usize,
+    pub chunks: usize,
+    pub size: usize,
 }
 
 impl Gathered {
     /// Before the first chunk.
-    pub(crate) fn new() -> Gathered
+    pub fn new() -> Gathered
         ensures { (result.count ≡ 0) × ((result.chunks ≡ 0) × (result.size ≡ 0)) }
     {
         Gathered {
@@ -44,7 +44,7 @@ impl Gathered {
     }
 
     /// Adds a chunk of `count` ids with a body of `size` bytes. A chunk without ids is none.
-    pub(crate) fn add(
+    pub fn add(
         &mut self,
         key: u32,
         count: usize,
@@ -78,7 +78,7 @@ impl Gathered {
 
     /// Writes the directory before the bodies, if the set is one in chunks and there is room for it. Returns its length in bytes, or `TooLong`, or
     /// `None` if its ids are so few, or so far apart, that it is no set in chunks.
-    pub(crate) fn write(
+    pub fn write(
         self,
         keys: &[u32],
         counts: &[u32],
@@ -149,7 +149,7 @@ fn clear_others(highs: &[u64; 4], words: &mut [u64; 1024])
 
 /// Writes a body, if there is room.
 #[inline(always)]
-pub(crate) fn put_body(body: &[u8], out: &mut [u8], at: usize)
+pub fn put_body(body: &[u8], out: &mut [u8], at: usize)
     requires start { at ≤ 2 ^ 33 }
     ensures { Follow body.now out.old out.new at (at + length body.now) }
 {
@@ -160,7 +160,7 @@ pub(crate) fn put_body(body: &[u8], out: &mut [u8], at: usize)
 }
 
 /// Writes the encoding of ids, if there is room for it. Returns its length in bytes.
-pub(crate) fn write_ids(ids: &[u32], out: &mut [u8]) -> Result<usize, SetError>
+pub fn write_ids(ids: &[u32], out: &mut [u8]) -> Result<usize, SetError>
     requires set { IsSet ids.now }
     ensures { Fills ids.now result out.old out.new }
 {

@@ -7,12 +7,14 @@ mod combining_all;
 mod combining_all_sets;
 mod combining_sets;
 mod folding;
-mod gathered;
 mod in_place;
 mod pairing;
 mod query;
 mod query_error;
 mod step;
+
+// For the crates above, and not for users.
+pub mod gathered;
 
 pub use as_step::AsStep;
 pub use combining::{combine_count, combine_to, is_disjoint, is_subset};

@@ -120,6 +120,27 @@ fn many_sets() {
     }
 }
 
+/// More sets than have a next key held.
+#[test]
+fn far_more_sets() {
+    let mut numbers = Numbers(7);
+    let models: Vec<Model> = (0..20_000).map(|_| (0..3).map(|_| numbers.below(1 << 22)).collect()).collect();
+    let sets: Vec<IdSetBuf> = models.iter().map(packed).collect();
+    let sets: Vec<&IdSet> = sets.iter().map(|set| &**set).collect();
+    let any: Model = models.iter().flatten().copied().collect();
+    let mut odd = Model::new();
+    for id in models.iter().flatten() {
+        if !odd.remove(id) {
+            odd.insert(*id);
+        }
+    }
+    let alone: Model = models[0].iter().copied().filter(|id| models[1..].iter().all(|model| !model.contains(id))).collect();
+    assert_eq!(unite_all(&sets), listed(&any));
+    assert_eq!(IdSetBuf::unite_all(&sets).unwrap(), packed(&any));
+    assert_eq!(IdSetBuf::symmetric_difference_all(&sets).unwrap(), packed(&odd));
+    assert_eq!(IdSetBuf::subtract_all(&sets).unwrap(), packed(&alone));
+}
+
 /// Sets of one range, whose union would have room for far too many ids: the call counts first. Their sum is above 4,194,304.
 #[test]
 fn a_union_of_sets_that_are_alike() {

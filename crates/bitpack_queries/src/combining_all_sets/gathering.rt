@@ -5,7 +5,7 @@ ghost use Rattle.bitpack_queries.specs.Gathered.{IsGathered, most_keys};
 ghost use Rattle.bitpack_queries.specs.Operations.{answer_all};
 
 use crate::combining_all::first_of;
-use crate::folding::{KEYS, combine_keys};
+use crate::folding::{HELD, KEYS, combine_keys};
 use crate::gathered::{Gathered, put_key};
 use bitpack_sets::AsSet;
 use bitpack_sets::chunks::NO_KEY;
@@ -34,6 +34,7 @@ pub(crate) fn gather<S: AsSet>(
     let first = first_of(operation, sets);
     let mut highs = [[0; 4]; KEYS];
     let mut words = [[0; 1024]; KEYS];
+    let mut held = [0; HELD];
     let mut ids = [0; MOST_LISTED];
     let mut body = [0; LONGEST_BLOCKS];
     let mut gathered = Gathered::new();
@@ -42,7 +43,10 @@ pub(crate) fn gather<S: AsSet>(
     let mut next = 0;
     while key < NO_KEY {
         if key == next {
-            next = combine_keys(operation, sets, first, key, &mut highs, &mut words) / 8 * 8;
+            next = combine_keys(
+                operation, sets, first, key, &mut held, &mut highs, &mut words,
+            ) / 8
+                * 8;
         }
         let k = (key % 8) as usize;
         let (own, len) = put_key(

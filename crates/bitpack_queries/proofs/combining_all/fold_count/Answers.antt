@@ -1,11 +1,12 @@
 -- The ids of several keys more are counted.
 use Rattle.std.proofs.Common.{◌+◌, ◌*◌, ◌/◌, ◌^◌, ℕ, length, map, ap, arith, refl}
 use Rattle.std.proofs.lemmas.List.{length-map}
-use Rattle.bitpack_queries.specs.Folds.{found}
+use Rattle.bitpack_queries.specs.Folds.{found, swapped}
 use Rattle.bitpack_queries.specs.Operations.{folded}
 use Rattle.bitpack_slices.specs.Reads.{has}
 use Rattle.bitpack_queries.proofs.lemmas.two.AnswerLaws.{counted_all}
 use Rattle.bitpack_slices.proofs.ForCallers.{those_few}
+use Rattle.bitpack_queries.proofs.lemmas.many.HeldLaws.{later_held, none_held}
 use Rattle.bitpack_queries.proofs.lemmas.many.KeysLaws.{all_left, keys_counted, keys_first, none_from}
 use Rattle.bitpack_queries.proofs.combining_all.fold_count.Goals as goal
 
@@ -15,7 +16,7 @@ loop-base-init g c =
     let long = length-map c.args.sets.now f in
     let within = c.first_of-first.ensures.within in
     let all = ap length (all_left c.args.operation c.first_of-first.result (map f c.args.sets.now) (omega arith) c.first_of-first.ensures.may) in
-    record { most = omega arith; whole = refl; counted = record { rest = omega arith } }
+    record { most = omega arith; whole = refl; held = none_held 16384 0 (swapped c.first_of-first.result (map f c.args.sets.now)); counted = record { rest = omega arith } }
 
 pub overflow_add-count : goal.overflow_add-count
 overflow_add-count g c =
@@ -38,6 +39,7 @@ loop-base-preserved g c =
     record {
       most = omega arith;
       whole = omega arith;
+      held = later_held c.combine_keys-next.new.held (c.loop-base.base + 8) (c.combine_keys-next.result / 8 * 8) (swapped c.first_of-first.result (map f c.args.sets.now)) (omega arith) next.held;
       counted = keys_counted c.loop-base.count (c.loop-base.count + c.count_keys-count.result) c.loop-base.base c.combine_keys-next.new.highs c.combine_keys-next.new.words _ _ _ inv.counted
           (keys_first c.args.operation c.first_of-first.result c.loop-base.base (c.combine_keys-next.result / 8 * 8) c.combine_keys-next.result (map f c.args.sets.now)
           c.combine_keys-next.new.highs c.combine_keys-next.new.words (omega arith) (omega arith) (omega arith) next.own next.none)

@@ -1,9 +1,10 @@
 -- The ids of several keys more are written.
 use Rattle.std.proofs.Common.{◌+◌, ◌*◌, ◌/◌, ◌^◌, ℕ, length, length-append, map, ap, sym, ◌∙◌, arith, refl}
 use Rattle.std.proofs.lemmas.List.{length-map}
-use Rattle.bitpack_queries.specs.Folds.{found, ids_of_keys}
+use Rattle.bitpack_queries.specs.Folds.{found, ids_of_keys, swapped}
 use Rattle.bitpack_slices.specs.Operations.{those}
 use Rattle.bitpack_queries.proofs.lemmas.two.AnswerLaws.{counted_so, length_all, written_all}
+use Rattle.bitpack_queries.proofs.lemmas.many.HeldLaws.{later_held, none_held}
 use Rattle.bitpack_queries.proofs.lemmas.many.KeysLaws.{all_left, keys_first, keys_written, left_from, none_from}
 use Rattle.bitpack_queries.proofs.combining_all.fold_to.Goals as goal
 
@@ -15,6 +16,7 @@ loop-base-init g c =
     record {
       most = omega arith;
       whole = refl;
+      held = none_held 16384 0 (swapped c.first_of-first.result (map f c.args.sets.now));
       written = record { within = omega arith; parts = sym (all_left c.args.operation c.first_of-first.result (map f c.args.sets.now) (omega arith) c.first_of-first.ensures.may) };
       long = refl;
     }
@@ -41,6 +43,7 @@ loop-base-preserved g c =
     record {
       most = omega arith;
       whole = omega arith;
+      held = later_held c.combine_keys-next.new.held (c.loop-base.base + 8) (c.combine_keys-next.result / 8 * 8) (swapped c.first_of-first.result (map f c.args.sets.now)) (omega arith) next.held;
       written = keys_written c.loop-base.out c.unpack_keys.new.out c.loop-base.at c.in-Some.end c.loop-base.base c.combine_keys-next.new.highs c.combine_keys-next.new.words _ _ _ inv.written
           (keys_first c.args.operation c.first_of-first.result c.loop-base.base (c.combine_keys-next.result / 8 * 8) c.combine_keys-next.result (map f c.args.sets.now)
           c.combine_keys-next.new.highs c.combine_keys-next.new.words (omega arith) (omega arith) (omega arith) next.own next.none)

@@ -1,5 +1,5 @@
 -- The ids that are listed are a set.
-use Rattle.std.proofs.Common.{◌≡◌, ◌∙◌, List, Option, ap, arith, length, map, subst, sym, take, ℕ}
+use Rattle.std.proofs.Common.{◌≡◌, ◌∙◌, List, ap, arith, length, map, subst, sym, take, ℕ}
 use Rattle.std.proofs.lemmas.List.{length-take}
 use Rattle.bitpack_sets.specs.Sets.{IsSet}
 use Rattle.bitpack_queries.specs.Operations.{answer_all}

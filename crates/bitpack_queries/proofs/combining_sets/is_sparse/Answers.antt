@@ -2,7 +2,6 @@
 use Rattle.std.proofs.Common.{◌/◌, ◌^◌, arith}
 use Rattle.std.proofs.Math.Nat.{div-le_self}
 use Rattle.std.proofs.lemmas.Nat.{mul-le}
-use Rattle.bitpack_sets.specs.Opened.{ids}
 use Rattle.bitpack_queries.proofs.lemmas.two.CountLaws.{set_is}
 use Rattle.bitpack_queries.proofs.combining_sets.is_sparse.Goals as goal
 

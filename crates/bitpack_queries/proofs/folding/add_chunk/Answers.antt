@@ -1,9 +1,11 @@
 -- High bytes that are new are cleared before, or only shared ones are combined.
-use Rattle.std.proofs.Common.{◌≡◌, ◌/◌, ◌&&◌, ℕ, false, List, ap, sym, ◌∙◌, arith}
+use Rattle.std.proofs.Common.{◌≡◌, ◌/◌, ◌&&◌, ℕ, Bool, false, List, ap, sym, ◌∙◌, arith}
 use Rattle.bitpack_slices.specs.Bitmaps.{has_bit}
 use Rattle.bitpack_sets.specs.Chunks.{lows_between}
 use Rattle.bitpack_queries.specs.Folds.{has_number}
+use Rattle.bitpack_slices.specs.Operations.{apply}
 use Rattle.bitpack_slices.specs.Reads.{has}
+use Rattle.bitpack_queries.proofs.lemmas.two.LoneLaws.{first_kept, none_between}
 use Rattle.bitpack_queries.proofs.lemmas.two.AnswerLaws.{listed_has, listed_rise}
 use Rattle.bitpack_queries.proofs.lemmas.many.FoldLaws.{cut_has, joined_has, no_high}
 use Rattle.bitpack_queries.proofs.folding.add_chunk.Goals as goal
@@ -11,6 +13,13 @@ use Rattle.bitpack_queries.proofs.folding.add_chunk.Goals.{then-retains_right, e
 
 pub clear_highs-requires : goal.clear_highs-requires
 clear_highs-requires c = listed_rise _ _ c.unpack_bits-count.ensures.values
+
+-- without an id in the set all stay
+pub returns-then-retains_left : goal.returns-then-retains_left
+returns-then-retains_left c x small =
+    let now : Bool = has_number c.args.highs.now c.args.words.now x in
+    sym (ap (λ (l : List ℕ). apply c.args.operation now (has x l)) (none_between c.args.set.now c.args.position c.args.end c.if-position-end.true)
+    ∙ first_kept c.args.operation now (sym c.retains_left.ensures ∙ c.if-retains_left.true))
 
 pub returns : goal.returns
 unfolding has_number

@@ -13,7 +13,7 @@ use Rattle.bitpack_queries.specs.Pairs.{meets}
 use Rattle.bitpack_queries.specs.declared.pairing.Meeting.{Meeting}
 use Rattle.bitpack_queries.specs.declared.pairing.Pair.{Pair}
 
-first_kept : (operation : Operation) (p : Bool) → apply operation true false ≡ true → apply operation p false ≡ p
+pub first_kept : (operation : Operation) (p : Bool) → apply operation true false ≡ true → apply operation p false ≡ p
 first_kept operation true h = h
 first_kept operation false h = apply_none operation false false refl refl
 
@@ -26,7 +26,7 @@ none_case true c xs others n none same = ap (λ (k : ℕ). map (λ x. x % 65536)
 none_case false c xs others n none same = ap (λ (b : Bool). cond b [] others) same
 
 -- there is no number between a position and itself
-none_between : (set : Chunks) (position end : ℕ) → position ≡ end → lows_between set position end ≡ []
+pub none_between : (set : Chunks) (position end : ℕ) → position ≡ end → lows_between set position end ≡ []
 none_between set position end same = none_case _ _ _ _ (end - position) (omega arith) (eq-eqb position end same)
 
 -- the only chunk between two positions

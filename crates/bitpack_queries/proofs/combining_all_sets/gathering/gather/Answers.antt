@@ -1,12 +1,13 @@
 -- One key more is gathered.
-use Rattle.std.proofs.Common.{◌+◌, ◌%◌, ◌^◌, ◌<◌, List, [], length, arith, get_or, map, refl, subst, sym, ◌∙◌, ℕ}
+use Rattle.std.proofs.Common.{◌+◌, ◌*◌, ◌/◌, ◌%◌, ◌^◌, ◌<◌, List, [], length, arith, get_or, map, refl, subst, sym, ◌∙◌, ℕ}
 use Rattle.std.proofs.lemmas.List.{length-map}
 use Rattle.bitpack_slices.proofs.ForCallers.{those_few}
 use Rattle.bitpack_slices.specs.Operations.{those}
 use Rattle.bitpack_slices.specs.Reads.{has}
-use Rattle.bitpack_queries.specs.Folds.{has_number}
+use Rattle.bitpack_queries.specs.Folds.{AreHeld, has_number, swapped}
 use Rattle.bitpack_queries.specs.Operations.{answer_all, folded}
 use Rattle.bitpack_queries.specs.Pairs.{IsPart}
+use Rattle.bitpack_queries.proofs.lemmas.many.HeldLaws.{later_held, none_held}
 use Rattle.bitpack_queries.proofs.lemmas.many.KeysLaws.{AreKeys, all_left, key_part, keys_combined, keys_end, keys_passed, left_from, none_from}
 use Rattle.bitpack_queries.proofs.lemmas.many.MostKeys.{answer_chunks, gather_room}
 use Rattle.bitpack_queries.proofs.lemmas.two.GatherLaws.{Gathering, gather_done, gather_few, gather_key, gather_start}
@@ -26,6 +27,7 @@ loop-key-init g c =
       within = omega arith;
       last = omega arith;
       whole = refl;
+      held = none_held 16384 0 (swapped c.first_of-first.result all);
       combined = λ h. absurd (omega arith);
       so = rw (a, b, d) (subst (λ (l : List ℕ). Gathering (answer_all c.args.operation all) l c.args.out.now c.args.out.now c.args.keys.now c.args.counts.now c.args.sizes.now 0 0 0)
           (sym (all_left c.args.operation c.first_of-first.result all (omega arith) c.first_of-first.ensures.may))
@@ -52,6 +54,25 @@ loaded g c =
           (omega arith) next.later next.most next.own next.none))
       | else-key-next w ↦ rw (w.next-is, w.highs-is, w.words-is) (before.invariant.combined (let apart = w.if-key-next.false in let within = before.invariant.within in omega arith))
     ]
+
+-- the keys that are held are those of the next key
+still_held : (g : Over) (c : After-put_key-own g) → AreHeld c.if-key-next.held c.if-key-next.next (swapped c.first_of-first.result (map g.S.AsSet.its_ids c.args.sets.now))
+still_held g c =
+    let before = c.loop-key in
+    let most = c.loop-key-test.true in
+    elim c.if-key-next.branch [
+      | then-key-next w ↦ (
+          let next = w.combine_keys.ensures in
+          let later = next.later in
+          let whole = before.invariant.whole in
+          rw (w.next-is, w.held-is)
+          (later_held w.combine_keys.new.held (before.key + 8) (w.combine_keys.result / 8 * 8) (swapped c.first_of-first.result (map g.S.AsSet.its_ids c.args.sets.now)) (omega arith) next.held))
+      | else-key-next w ↦ rw (w.next-is, w.held-is) before.invariant.held
+    ]
+
+pub combine_keys-requires-clause-held : goal.combine_keys-requires-clause-held
+combine_keys-requires-clause-held g c =
+    later_held c.loop-key.held c.loop-key.next c.loop-key.key (swapped c.first_of-first.result (map g.S.AsSet.its_ids c.args.sets.now)) (omega (arith, c.if-key-next.true)) c.loop-key.invariant.held
 
 -- what is left from it on begins with its ids
 part : (g : Over) (c : After-put_key-own g)
@@ -152,6 +173,7 @@ loop-key-preserved-then-k-eq7 g c =
       within = omega arith;
       last = are.most;
       whole = are.whole;
+      held = still_held g at.After-put_key-own;
       combined = λ h. absurd (omega arith);
       so = subst (λ (l : List ℕ). Gathering (answer_all c.args.operation (map g.S.AsSet.its_ids c.args.sets.now)) l c.args.out.now c.put_key-own.new.out
           c.add.new.keys c.add.new.counts c.add.new.sizes c.add.new.self.count c.add.new.self.chunks c.add.new.self.size)
@@ -179,6 +201,7 @@ loop-key-preserved g c =
       within = omega arith;
       last = are.most;
       whole = are.whole;
+      held = still_held g at.After-put_key-own;
       combined = λ h. keys_passed c.args.operation c.first_of-first.result c.loop-key.key c.if-key-next.next (map g.S.AsSet.its_ids c.args.sets.now) c.if-key-next.highs c.if-key-next.words c.put_key-own.new.words are c.if-k-eq7.false;
       so = so;
       small = omega arith;

@@ -1,6 +1,7 @@
 -- What is gathered so far, and what is left from a key on.
 use Rattle.std.proofs.Common.{◌≡◌, ◌*◌, ◌-◌, ◌/◌, ◌^◌, ◌<◌, ◌≤◌, length, map}
 use Rattle.bitpack_slices.specs.Operations.{those}
+use Rattle.bitpack_queries.specs.Folds.{AreHeld, swapped}
 use Rattle.bitpack_queries.specs.Operations.{answer_all}
 use Rattle.bitpack_queries.proofs.lemmas.many.KeysLaws.{AreKeys, left_from}
 use Rattle.bitpack_queries.proofs.lemmas.two.GatherLaws.{Gathering}
@@ -11,6 +12,7 @@ invariant-loop-key g l = record {
   within : l.key ≤ l.next;
   last : l.next ≤ 65536;
   whole : l.next / 8 * 8 ≡ l.next;
+  held : AreHeld l.held l.next (swapped l.first (map g.S.AsSet.its_ids l.sets));
   combined : l.key < l.next → AreKeys l.operation l.first (map g.S.AsSet.its_ids l.sets) l.highs l.words l.key l.next;
   so : Gathering (answer_all l.operation (map g.S.AsSet.its_ids l.sets)) (those (2 ^ 32) (left_from l.operation l.first (map g.S.AsSet.its_ids l.sets) l.key))
       l.fn.out l.out l.keys l.counts l.sizes l.gathered.count l.gathered.chunks l.gathered.size;
