@@ -21,6 +21,7 @@ from parts import FOLDER, KINDS, LANES, body_of, list_text, plain_blocks
 from refusals import number_of, refused_rows
 from refused_columns import damaged_columns, refused_columns
 from refused_id_sets import damaged_sets, refused_id_sets
+from roaring import WORKED as WORKED_BITMAPS, bitmaps, damaged_bitmaps, refused_bitmaps
 from rules import rule_of
 from sets import intersections, refused_values, searches
 
@@ -60,6 +61,19 @@ def refused_set_rows():
         yield number_of(fault), fault, spelled_bytes(text)
 
 
+def bitmap_rows():
+    """Roaring's bitmaps, and after them the damaged texts that are another bitmap."""
+    worked = {bytes.fromhex(text).hex() for text in WORKED_BITMAPS.values()}
+    found = dict(bitmaps()) | {text: ids for text, fault, ids in damaged_bitmaps() if fault is None}
+    for text, ids in found.items():
+        yield spelled_ids(ids), spelled_bytes(text), "yes" if text.hex() in worked else "no"
+
+
+def refused_bitmap_rows():
+    for fault, text in refused_bitmaps():
+        yield number_of(fault), fault, spelled_bytes(text)
+
+
 def column_rows():
     """The columns, and after them the damaged texts that are the text of another column."""
     found = {text: (kind, values) for kind, values, text in columns()}
@@ -85,6 +99,8 @@ def tables(blocks):
         "id_sets.tsv": table("ids bytes", set_rows()),
         "refused_id_sets.tsv": table("number fault bytes", refused_set_rows()),
         "combined_id_sets.tsv": table("ids others both", (map(spelled_ids, it) for it in combined_id_sets())),
+        "bitmaps.tsv": table("ids bytes croaring", bitmap_rows()),
+        "refused_bitmaps.tsv": table("number fault bytes", refused_bitmap_rows()),
         "columns.tsv": table("kind values bytes", column_rows()),
         "refused_columns.tsv": table("number fault bytes", refused_column_rows()),
         "digests.tsv": table("kind lanes count bits version length sha256", digests()),

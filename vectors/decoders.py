@@ -179,6 +179,12 @@ def array_at(at, count, text):
     return ids, at
 
 
+def need_rising(position, numbers):
+    """Requires that each number of a chunk is above the one before. The first one has this position among the ids."""
+    for p in range(1, len(numbers)):
+        need(numbers[p - 1] < numbers[p], "NotSorted", position + p)
+
+
 def slice_len(c):
     return c if c < 32 else 32 if c < 256 else 0
 
@@ -223,8 +229,7 @@ def runs_numbers(m, count, body):
 def body_numbers(m, position, count, body):
     if len(body) == 2 * count:
         numbers, _ = shorts_at(0, 2, count, body)
-        for p in range(1, count):
-            need(numbers[p - 1] < numbers[p], "NotSorted", position + p)
+        need_rising(position, numbers)
         highs = [number // 256 for number in numbers]
         r = len({*highs})
         blocks_len = 1 + slice_len(r) + r + sum(slice_len(highs.count(high)) for high in {*highs})
@@ -276,6 +281,60 @@ def decode_set(text):
         need(n <= 2**28, "TooLong", n)
         ids, end = (chunks_at if text[0] == 5 else array_at)(at, n, text)
     need(end == len(text), "Trailing")
+    return ids
+
+
+# Roaring's portable format: the ids.
+
+
+def roaring_head(text):
+    need(len(text) >= 4, "Short")
+    runs = text[:2] == b"\x3B\x30"
+    need(runs or text[:4] == b"\x3A\x30\x00\x00", "BadVersion", text[0])
+    need(runs or len(text) >= 8, "Short")
+    count = 1 + int.from_bytes(text[2:4], "little") if runs else int.from_bytes(text[4:8], "little")
+    need(count <= 65_536, "BadNumber")
+    flags = 4 if runs else 8
+    entries = flags + ((count + 7) // 8 if runs else 0)
+    offsets = entries + 4 * count
+    end = offsets + (4 * count if not runs or count >= 4 else 0)
+    need(len(text) >= end, "Short")
+    found, _ = shorts_at(entries, 2, 2 * count, text)
+    are_runs = [runs and text[flags + m // 8] >> m % 8 & 1 == 1 for m in range(count)]
+    return list(zip(found[0::2], found[1::2], are_runs)), shorts_at(offsets, 4, (end - offsets) // 4, text)[0], end
+
+
+def roaring_numbers(m, position, count, is_run, body):
+    if is_run:
+        pairs, _ = shorts_at(2, 2, len(body) // 2 - 1, body)
+        numbers, end = [], -1
+        for first, more in zip(pairs[0::2], pairs[1::2]):
+            need(first > end and first + more < 65_536, "BadBody", m)
+            numbers += range(first, first + more + 1)
+            end = first + more + 1
+    elif count <= 4096:
+        numbers, _ = shorts_at(0, 2, count, body)
+        need_rising(position, numbers)
+    else:
+        numbers = [8 * i + bit for i, byte in enumerate(body) for bit in range(8) if byte >> bit & 1]
+    need(len(numbers) == count, "BadBody", m)
+    return numbers
+
+
+def decode_roaring(text):
+    entries, offsets, at = roaring_head(text)
+    ids = []
+    for m, (key, less, is_run) in enumerate(entries):
+        need(m == 0 or entries[m - 1][0] < key, "BadKey", m)
+        need(not offsets or offsets[m] == at, "BadOffset", m)
+        size = 8192 if less >= 4096 else 2 * (less + 1)
+        if is_run:
+            need(len(text) - at >= 2, "Short")
+            size = 2 + 4 * int.from_bytes(text[at : at + 2], "little")
+        need(len(text) - at >= size, "Short")
+        ids += [65_536 * key + number for number in roaring_numbers(m, len(ids), less + 1, is_run, text[at : at + size])]
+        at += size
+    need(len(text) == at, "Trailing")
     return ids
 
 

@@ -61,3 +61,37 @@ def encode_set(ids):
     if len(ids) < 4 * len(chunks):
         return bytes([6]) + number_of(len(ids)) + b"".join(value.to_bytes(4, "little") for value in ids)
     return chunks_bytes(len(ids), chunks)
+
+
+# Roaring's portable format, each container in its shortest form.
+
+
+def roaring_container(numbers):
+    """The bytes of a container, and whether it is runs."""
+    kept = {*numbers}
+    firsts = [number for number in numbers if number - 1 not in kept]
+    lasts = [number for number in numbers if number + 1 not in kept]
+    if 2 + 4 * len(firsts) < (2 + 2 * len(numbers) if len(numbers) <= 4096 else 8192):
+        pairs = [it for first, last in zip(firsts, lasts) for it in (first, last - first)]
+        return b"".join(it.to_bytes(2, "little") for it in [len(firsts), *pairs]), True
+    if len(numbers) <= 4096:
+        return b"".join(it.to_bytes(2, "little") for it in numbers), False
+    return sum(1 << number for number in numbers).to_bytes(8192, "little"), False
+
+
+def encode_roaring(ids):
+    keys = sorted({value >> 16 for value in ids})
+    numbers = {key: [] for key in keys}
+    for value in ids:
+        numbers[value >> 16].append(value % 65_536)
+    containers = [roaring_container(numbers[key]) for key in keys]
+    flags = sum(is_run << m for m, (_, is_run) in enumerate(containers))
+    head = b"\x3A\x30\x00\x00" + len(keys).to_bytes(4, "little")
+    if flags:
+        head = b"\x3B\x30" + (len(keys) - 1).to_bytes(2, "little") + flags.to_bytes((len(keys) + 7) // 8, "little")
+    head += b"".join(it.to_bytes(2, "little") for key in keys for it in (key, len(numbers[key]) - 1))
+    if not flags or len(keys) >= 4:
+        at = len(head) + 4 * len(keys)
+        for body, _ in containers:
+            head, at = head + at.to_bytes(4, "little"), at + len(body)
+    return head + b"".join(body for body, _ in containers)

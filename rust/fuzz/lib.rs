@@ -5,7 +5,7 @@ mod columns;
 mod sets;
 
 use bitpacking::column::Column;
-use bitpacking::set::IdSet;
+use bitpacking::set::{IdSet, IdSetBuf};
 
 /// Longer sets and columns, which few bytes can have, are only read at some places.
 const MOST: usize = 1 << 16;
@@ -36,6 +36,10 @@ pub unsafe extern "C" fn LLVMFuzzerTestOneInput(bytes: *const u8, len: usize) ->
     let bytes = if len == 0 { &[] } else { unsafe { core::slice::from_raw_parts(bytes, len) } };
     let given = arguments(bytes);
     if let Ok(set) = IdSet::open(bytes) {
+        sets::read(&set, &given);
+    }
+    if let Ok(set) = IdSetBuf::from_roaring(bytes) {
+        assert!(IdSet::open(set.as_bytes()).is_ok());
         sets::read(&set, &given);
     }
     if let Ok(column) = Column::open(bytes) {

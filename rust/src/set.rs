@@ -31,8 +31,8 @@
 //! # Memory
 //!
 //! Each call says what it allocates; most that read a set allocate nothing. An iterator or a cursor has room for 256 ids, and so a size of about
-//! 1 KB. [`intersect_all`], [`unite_all`] and [`subtract_all`] of more than two sets need about 80 KB of stack, and calls that make a set of sets
-//! 130 KB. If there is no memory, a call fails with `Memory` if it says so, and else panics or aborts, as a `Vec` does.
+//! 1 KB. [`intersect_all`], [`unite_all`] and [`subtract_all`] of more than two sets need about 120 KB of stack, and calls that make a set of sets
+//! 160 KB. If there is no memory, a call fails with `Memory` if it says so, and else panics or aborts, as a `Vec` does.
 
 mod builder;
 mod combining;
@@ -47,6 +47,7 @@ mod query;
 mod query_ids;
 mod ranges;
 mod reading;
+mod roaring;
 
 use alloc::borrow::ToOwned;
 use alloc::vec::Vec;

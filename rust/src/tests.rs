@@ -23,4 +23,5 @@ mod set_packing;
 mod set_query;
 mod set_ranges;
 mod set_reading;
+mod set_roaring;
 mod set_types;

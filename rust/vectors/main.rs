@@ -8,6 +8,7 @@ mod digests;
 mod lists;
 mod query_trees;
 mod report;
+mod roaring;
 mod rows;
 mod sets;
 
@@ -18,7 +19,7 @@ use report::Report;
 use rows::Row;
 
 /// Each table, and what checks a row of it.
-const TABLES: [(&str, fn(&Row, &mut Report)); 20] = [
+const TABLES: [(&str, fn(&Row, &mut Report)); 22] = [
     ("blocks.tsv", blocks::packed),
     ("single.tsv", blocks::packed),
     ("loose.tsv", blocks::packed),
@@ -36,6 +37,8 @@ const TABLES: [(&str, fn(&Row, &mut Report)); 20] = [
     ("refused_id_sets.tsv", sets::refused),
     ("combined_id_sets.tsv", combined_sets::combined),
     ("combined_id_sets.tsv", query_trees::queried),
+    ("bitmaps.tsv", roaring::read),
+    ("refused_bitmaps.tsv", roaring::refused),
     ("columns.tsv", columns::opened),
     ("columns.tsv", appended_columns::appended),
     ("refused_columns.tsv", columns::refused),

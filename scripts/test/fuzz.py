@@ -1,5 +1,5 @@
 #!/usr/bin/env python3
-"""Opens any bytes as sets and columns of the Rust crate for a minute, and reads and combines those that open: rust/fuzz/, with libFuzzer
+"""Opens any bytes as sets, columns and bitmaps of the Rust crate for a minute, and reads and combines those that open: rust/fuzz/, with libFuzzer
 and AddressSanitizer, since indexes are unchecked. It begins with the bytes of vectors/, alone and in pairs. It needs
 
     cargo and rustc of a nightly toolchain    rustup toolchain install nightly
@@ -20,7 +20,7 @@ from rows import octets, table
 OUT = f"{ROOT}/target/fuzz"
 TARGET = "x86_64-unknown-linux-gnu"
 # By file of vectors/, whose column is `bytes`: each row or each 16th, since all refused ones take longer than the minute.
-SEEDS = {"id_sets": 1, "columns": 1, "refused_id_sets": 16, "refused_columns": 16}
+SEEDS = {"id_sets": 1, "columns": 1, "bitmaps": 1, "refused_id_sets": 16, "refused_columns": 16, "refused_bitmaps": 4}
 # Longer bytes are no seeds, and none are made.
 MOST = 4096
 COVERAGE = ["level=4", "inline-8bit-counters", "pc-table", "trace-compares"]

@@ -132,6 +132,17 @@ def id_set_checks(names):
                 yield f"refused ids {row['bytes'][:80]}", answer_of(names["encode_set"], wrong), f"NotSorted({p})"
 
 
+def bitmap_checks(names):
+    for row in table("refused_bitmaps.tsv"):
+        yield f"refused bitmap {row['bytes'][:80]}", answer_of(names["decode_roaring"], octets(row["bytes"])), row["fault"]
+    for row in table("bitmaps.tsv"):
+        ids, text = [*spelled_ids(row["ids"])], octets(row["bytes"])
+        yield f"bitmap {row['bytes'][:80]}", answer_of(names["decode_roaring"], text), ids
+        written = names["encode_roaring"](ids)
+        yield f"text of bitmap {row['bytes'][:80]}", answer_of(names["decode_roaring"], written), ids
+        yield f"text of bitmap {row['bytes'][:80]}, as CRoaring's", row["croaring"] == "no" or written == text, True
+
+
 def column_checks(names):
     for row in table("refused_columns.tsv"):
         yield f"refused column {row['bytes'][:80]}", answer_of(names["decode_column"], octets(row["bytes"])), row["fault"]
@@ -146,7 +157,14 @@ def column_checks(names):
 
 
 CHECKS = {
-    **{"blocks": block_checks, "lists": list_checks, "queries": query_checks, "id_sets": id_set_checks, "columns": column_checks},
+    **{
+        "blocks": block_checks,
+        "lists": list_checks,
+        "queries": query_checks,
+        "id_sets": id_set_checks,
+        "bitmaps": bitmap_checks,
+        "columns": column_checks,
+    },
     "lines": lambda names: ((line, names["answer"](line), right) for line, right in lines_by_hand()),
     "long_lists": long_list_checks,
 }
@@ -161,10 +179,12 @@ def rule_checks(names):
 
 
 def page_checks(names):
-    """The bytes beside the faults of docs/FORMAT.md, by the decoder of their version in one lane, of sets, or of columns."""
+    """The bytes beside the faults of docs/FORMAT.md, by the decoder of their version in one lane, of sets, or of columns, and of docs/ROARING.md."""
     lists = {title: functools.partial(names[name], 1) for title, name in [("Refusals", "decode"), ("Refusals of version 2", "decode2")]}
-    for title, decode in [*lists.items(), ("Faults of a set", names["decode_set"]), ("Faults of a column", names["decode_column"])]:
-        shown, fault = re.split(r"\n##+ ", source("docs/FORMAT.md").split(f"\n### {title}\n")[1])[0], ""
+    decoders = [*lists.items(), ("Faults of a set", names["decode_set"]), ("Faults of a column", names["decode_column"])]
+    pages = source("docs/FORMAT.md") + source("docs/ROARING.md")
+    for title, decode in [*decoders, ("Faults of a bitmap", names["decode_roaring"])]:
+        shown, fault = re.split(r"\n##+ ", pages.split(f"\n### {title}\n")[1])[0], ""
         found = re.findall(r"\b([A-Z]\w+)[(,; ]|`((?:[0-9A-F]{2})+)`(?:: ([\d, ]*\d))?", shown)
         yield f"whether bytes are beside the {title}", any(text for _, text, _ in found), True
         for name, text, details in found:

@@ -5,7 +5,7 @@
 pub type File = (&'static str, &'static str);
 
 /// The modules that have a second copy. Chains and the functions for C have none: they call functions that go over to it.
-pub const COPIED: [&str; 8] = ["register", "bitpacking", "groups", "slices", "sets", "queries", "columns", "ranking"];
+pub const COPIED: [&str; 9] = ["register", "bitpacking", "groups", "slices", "sets", "queries", "roaring", "columns", "ranking"];
 
 /// The features of the level that the functions of the second copy have. `rust/src/level.rs` asks the processor for them.
 pub const FEATURES: &str = "avx2,bmi1,bmi2,lzcnt,popcnt";
@@ -51,7 +51,7 @@ const fn entries(file: File, of: &'static str, functions: &'static [&'static str
 
 /// What the functions for Rust and for C call, if it reads or writes more than a few bytes. Blocks of 128 and of 32 values gain less than the choice
 /// costs, and so does one value of a column.
-pub const ENTRIES: [Entries; 25] = [
+pub const ENTRIES: [Entries; 26] = [
     entries(("bitpacking", "bitpacker8x.rt"), "BitPacker8x", &["pack_unmeasured", "unpack_counted", "width_counted"]),
     entries(("sets", "opening.rt"), "opening", &["test_encoding"]),
     entries(("queries", "combining.rt"), "combining", &["combine_to", "combine_count", "is_disjoint", "is_subset"]),
@@ -64,6 +64,7 @@ pub const ENTRIES: [Entries; 25] = [
     entries(("queries", "query.rt"), "Query", &["next_ids"]),
     entries(("queries", "query.rt"), "query", &["query_to"]),
     entries(("queries", "query/packing.rt"), "query::packing", &["query_set_to"]),
+    entries(("roaring", "reading.rt"), "reading", &["fill_from_roaring"]),
     entries(("sets", "encoding/order.rt"), "encoding::order", &["first_unsorted"]),
     entries(("columns", "opening.rt"), "opening", &["test_column"]),
     entries(("columns", "encoding.rt"), "encoding", &["encode", "encode_to", "encoded_len"]),

@@ -20,13 +20,14 @@ macro_rules! module {
 }
 
 /// The crates, the lowest first, with their modules.
-pub const CRATES: [Module; 10] = [
+pub const CRATES: [Module; 11] = [
     module!("bitpacking_register", "register", is_for_c: false),
     module!("bitpacking", "bitpacking", is_for_c: false),
     module!("bitpack_groups", "groups", is_for_c: false),
     module!("bitpack_slices", "slices", is_for_c: false),
     module!("bitpack_sets", "sets", is_for_c: false),
     module!("bitpack_queries", "queries", is_for_c: false),
+    module!("bitpack_roaring", "roaring", is_for_c: false),
     module!("bitpack_columns", "columns", is_for_c: false),
     module!("bitpack_ranked", "ranking", is_for_c: false),
     module!("bitpack_lists", "lists", is_for_c: false),

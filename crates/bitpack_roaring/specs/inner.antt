@@ -1,0 +1,2 @@
+-- What serves inner contracts.
+pub mod Heads

@@ -1,0 +1,44 @@
+//! Bitmaps in Roaring's portable format, as sets.
+
+use alloc::vec::Vec;
+
+use super::packing::packed;
+use super::{Error, IdSetBuf};
+use crate::growing::Growing;
+use crate::roaring;
+
+impl IdSetBuf {
+    /// Returns the set of the ids of a bitmap in Roaring's portable format, as `roaring_bitmap_portable_serialize` of CRoaring and `serialize` of the
+    /// crate `roaring` write it. All bytes are tested, so they may come from a file or from another machine. Allocates the bytes of the set, and 16
+    /// bytes for each container while it runs.
+    ///
+    /// # Errors
+    ///
+    /// The first fault of bytes that are no bitmap: `Short`, `BadVersion` (no cookie of Roaring), `BadNumber` (too many containers), `BadKey`,
+    /// `BadOffset`, `NotSorted`, `BadBody` or `Trailing`; `TooLong`, if there are more than 268,435,456 ids; `Memory`.
+    ///
+    /// ```
+    /// use bitpacking::set::{Error, IdSetBuf};
+    ///
+    /// // 0 to 9 as a run.
+    /// let bytes = [0x3B, 0x30, 0, 0, 1, 0, 0, 9, 0, 1, 0, 0, 0, 9, 0];
+    /// assert!(IdSetBuf::from_roaring(&bytes)?.iter().eq(0..10));
+    /// assert_eq!(IdSetBuf::from_roaring(&bytes[..14]).err(), Some(Error::Short));
+    /// # Ok::<(), Error>(())
+    /// ```
+    pub fn from_roaring(bytes: &[u8]) -> Result<IdSetBuf, Error> {
+        let mut room = Vec::new();
+        room.try_resize(roaring::roaring_room(bytes)?, 0).map_err(|_| Error::Memory)?;
+        packed(|set| {
+            // Arrays and bits take at most a quarter more as chunks. Few runs may take more bytes as blocks.
+            set.try_resize(bytes.len() / 4 * 5 + 16, 0).map_err(|_| Error::Memory)?;
+            let mut len = roaring::fill_from_roaring(bytes, &mut room, set)?;
+            if len > set.len() {
+                set.try_resize(len, 0).map_err(|_| Error::Memory)?;
+                len = roaring::fill_from_roaring(bytes, &mut room, set)?;
+            }
+            set.truncate(len);
+            Ok(())
+        })
+    }
+}

@@ -1,0 +1,67 @@
+//! Bitmaps in Roaring's portable format, as sets: worked and refused bytes, and many runs, which take more bytes as a set.
+
+use alloc::vec;
+use alloc::vec::Vec;
+
+use super::set_models::{bytes_of, ids_of, rows};
+use crate::set::{Error, IdSetBuf};
+
+#[test]
+fn bitmaps() {
+    let rows = rows("bitmaps");
+    assert_eq!(rows.len(), 165);
+    for row in rows {
+        let (ids, bytes) = (ids_of(&row[0]), bytes_of(&row[1]));
+        let set = IdSetBuf::from_roaring(&bytes).unwrap();
+        assert_eq!(set.as_bytes(), IdSetBuf::pack(&ids).unwrap().as_bytes(), "{}", row[1]);
+        let longer: Vec<u8> = bytes.iter().copied().chain([0]).collect();
+        assert!(IdSetBuf::from_roaring(&longer).is_err() && IdSetBuf::from_roaring(&bytes[..bytes.len() - 1]).is_err());
+    }
+}
+
+#[test]
+fn refused_bitmaps() {
+    let rows = rows("refused_bitmaps");
+    assert_eq!(rows.len(), 614);
+    for row in rows {
+        let number = IdSetBuf::from_roaring(&bytes_of(&row[2])).err().map(|it| it.number());
+        assert_eq!(number, row[0].parse().ok(), "{row:?}");
+    }
+}
+
+/// Containers of 33 runs: each takes 134 bytes as runs, and 8,449 as blocks.
+#[test]
+fn runs_that_become_blocks() {
+    let containers = 3000;
+    let mut bytes = vec![0x3B, 0x30];
+    bytes.extend((containers as u16 - 1).to_le_bytes());
+    bytes.extend(vec![255; containers / 8]);
+    let run = |index: u16| [index * 1985, 1983];
+    let count = 33 * 1984u32;
+    bytes.extend((0..containers as u16).flat_map(|key| [key, (count - 1) as u16]).flat_map(u16::to_le_bytes));
+    let first = bytes.len() + 4 * containers;
+    bytes.extend((0..containers).flat_map(|index| (first as u32 + 134 * index as u32).to_le_bytes()));
+    for _ in 0..containers {
+        bytes.extend([33].into_iter().chain((0..33).flat_map(run)).flat_map(u16::to_le_bytes));
+    }
+    let set = IdSetBuf::from_roaring(&bytes).unwrap();
+    assert_eq!((set.len(), set.min(), set.max()), (3000 * 33 * 1984, Some(0), Some((2999 << 16) + 32 * 1985 + 1983)));
+    assert!(set.as_bytes().len() > 2 * bytes.len() && !set.contains(1984) && set.contains(1985));
+}
+
+#[test]
+fn too_many_ids() {
+    assert_eq!(IdSetBuf::from_roaring(&too_many()).err(), Some(Error::TooLong(4097 << 16)));
+}
+
+/// Full containers of 4,097 keys.
+fn too_many() -> Vec<u8> {
+    let mut bytes = vec![0x3B, 0x30, 0, 16];
+    bytes.extend([255; 512]);
+    bytes.push(1);
+    bytes.extend((0..4097u16).flat_map(|key| [key, u16::MAX]).flat_map(u16::to_le_bytes));
+    let first = bytes.len() as u32 + 4 * 4097;
+    bytes.extend((0..4097).flat_map(|index| (first + 6 * index).to_le_bytes()));
+    bytes.extend((0..4097).flat_map(|_| [1u16, 0, u16::MAX]).flat_map(u16::to_le_bytes));
+    bytes
+}
