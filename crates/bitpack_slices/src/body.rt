@@ -17,8 +17,10 @@ ghost use Rattle.bitpack_slices.specs.Slices.{IsBlocks, block_numbers};
 use crate::bitmap::writing::LONGEST_BLOCKS;
 use crate::blocks::Blocks;
 use crate::blocks::combining::{count_combined, unpack_combined};
+use crate::blocks::loading::ALL_BITS;
 use crate::body::mixing::mix;
 use crate::body::runs::{MOST_BOTH, combine_both};
+use crate::chunk::parts::Parts;
 use crate::chunk::runs::Runs;
 use crate::listed::Listed;
 use crate::listed::filtering::filter;
@@ -153,13 +155,36 @@ fn combine_blocks(
             Operation::And => look_up(&list, body, true, out, at),
             _ => mix_list(operation, key, body, &list, out, at),
         },
-        Body::Blocks(other) => combine_slices(operation, key, body, other, out, at),
+        Body::Blocks(other) => combine_parts(operation, key, body, other, out, at),
         Body::Runs(runs) => {
             let mut room = [0; LONGEST_BLOCKS];
             let size = runs.write_blocks(&mut room);
             combine_slices(operation, key, body, &room[..size], out, at)
         }
     }
+}
+
+/// Writes the ids that an operation on two bodies of blocks gives, as `combine`.
+fn combine_parts(
+    operation: Operation,
+    key: u32,
+    body: &[u8],
+    other: &[u8],
+    out: &mut [u32],
+    at: usize,
+) -> usize
+    requires key { key < 65536 }
+    requires start { at ≤ 2 ^ 32 }
+    requires body { IsBlocks (length (block_numbers body.now)) body.now }
+    requires other { IsBlocks (length (block_numbers other.now)) other.now }
+    ensures { Follow (map (λ low. key * 65536 + low) (combined 65536 operation (block_numbers body.now) (block_numbers other.now))) out.old out.new at result }
+{
+    let a = Parts::new(body);
+    let b = Parts::new(other);
+    if at >= out.len() && a.slices.len() == ALL_BITS && b.slices.len() == ALL_BITS {
+        return at + a.count_as_bits(operation, b);
+    }
+    combine_slices(operation, key, body, other, out, at)
 }
 
 /// Writes the ids that an operation on two bodies of blocks gives, as `combine`.

@@ -6,10 +6,12 @@ ghost use Rattle.bitpack_slices.specs.Bitmaps.{has_bit};
 ghost use Rattle.bitpack_slices.specs.Operations.{apply, combined};
 ghost use Rattle.bitpack_slices.specs.Selections.{answer_with, parts_numbers, word_highs};
 
-use crate::bitmap::unpacking::unpack_bits;
+use crate::bitmap::unpacking::{count_bits, unpack_bits};
 use crate::blocks::Blocks;
-use crate::combined::{possible_highs, retains_left, retains_right};
+use crate::chunk::parts::Parts;
+use crate::combined::{combined_words, possible_highs, retains_left, retains_right};
 use crate::operation::Operation;
+use crate::slice::reading::words_of;
 use crate::slice::selecting::{
     combined_bits, count_both, fewer_first, unpack_last, unpack_matches,
 };
@@ -161,4 +163,38 @@ fn count_word<const NUMBER: u8>(
         left &= left.wrapping_sub(1);
     }
     count
+}
+
+impl<'a> Parts<'a> {
+    ghost use Rattle.bitpack_slices.specs.Parts.{numbers_in_parts};
+
+    /// How many numbers an operation on two bodies gives, if each of the 256 slices of both is bits.
+    pub(crate) fn count_as_bits(self, operation: Operation, other: Parts) -> usize
+        requires bits { length self.slices.now ≡ 8192 }
+        requires other_bits { length other.slices.now ≡ 8192 }
+        ensures { result ≡ length (combined 65536 operation (numbers_in_parts self.entry) (numbers_in_parts other.entry)) }
+    {
+        match operation {
+            Operation::And => self.count_as_bits_each(Operation::And, other),
+            Operation::Or => self.count_as_bits_each(Operation::Or, other),
+            Operation::AndNot => self.count_as_bits_each(Operation::AndNot, other),
+            Operation::Xor => self.count_as_bits_each(Operation::Xor, other),
+        }
+    }
+
+    /// Counts the numbers that `count_as_bits` counts, for an operation that the caller names, so that each operation has a loop of its own.
+    #[inline(always)]
+    fn count_as_bits_each(self, operation: Operation, other: Parts) -> usize
+        requires bits { length self.slices.now ≡ 8192 }
+        requires other_bits { length other.slices.now ≡ 8192 }
+        ensures { result ≡ length (combined 65536 operation (numbers_in_parts self.entry) (numbers_in_parts other.entry)) }
+    {
+        let mut count = 0;
+        for high in 0..256 {
+            let a = words_of(&self.slices[32 * high..32 * high + 32]);
+            let b = words_of(&other.slices[32 * high..32 * high + 32]);
+            count += count_bits(&combined_words(operation, a, b));
+        }
+        count
+    }
 }

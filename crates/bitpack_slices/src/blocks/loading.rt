@@ -28,7 +28,7 @@ pub fn load_blocks(body: &[u8], highs: &[u32], words: &mut [u64; 1024])
 }
 
 /// The most bytes of the slices of a body, if each slice is bits.
-const ALL_BITS: usize = 8192;
+pub(crate) const ALL_BITS: usize = 8192;
 
 impl<'a> Parts<'a> {
     ghost use Rattle.bitpack_slices.specs.Parts.{numbers_in_parts};

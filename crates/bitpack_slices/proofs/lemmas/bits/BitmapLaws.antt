@@ -121,6 +121,16 @@ pub those_few : (bound : ℕ) (passes : ℕ → Bool) → length (those bound pa
 unfolding those
 those_few bound passes = few_pass passes 0 bound
 
+pub those_on : (passes : ℕ → Bool) (a n : ℕ) → length (those (a + n) passes) ≡ length (those a passes) + length (those n (λ i. passes (a + i)))
+unfolding those
+those_on passes a n =
+    let first : 0 + a ≡ a + 0 = omega arith in
+    let front : List ℕ = filter passes (range_with_len 0 a) in
+    let later : List ℕ = filter (λ i. passes (a + i)) (range_with_len 0 n) in
+    ap length (those_split passes 0 a n ∙ ap (λ (k : ℕ). front ++ filter passes (range_with_len k n)) first
+        ∙ ap (λ (l : List ℕ). front ++ l) (those_raised passes a 0 n))
+    ∙ length-append front (map (λ i. a + i) later) ∙ ap (λ (k : ℕ). length front + k) (length-map later (λ i. a + i))
+
 -- the numbers of a word
 pub word_numbers : (words : List ℕ) (q r : ℕ) → r ≤ 64
     → filter (has_bit words) (range_with_len (64 * q) r) ≡ map (λ i. 64 * q + i) (ones_from (get_or words q 0) 0 r)

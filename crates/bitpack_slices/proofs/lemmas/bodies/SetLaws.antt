@@ -104,13 +104,11 @@ is_bits count e = elim (cases_lt count 32) [
   ]
 ]
 
--- there are 256 slices of 32 bytes each
-pub bits_all : (x : ℕ) (highs counts slices words : List ℕ) → length counts ≤ 256 → IsSlice (length counts) highs → AreSlices counts slices → length slices ≡ 8192
-    → ((high i : ℕ) → high < 256 → i < 256 → has_bit words (256 * high + i) ≡ has i (ones_from (number_of (take 32 (drop (32 * high) slices))) 0 256))
-    → x < 65536 → has_bit words x ≡ has x (numbers_of (slice_numbers (length counts) highs) counts slices)
-bits_all x highs counts slices words few occur are size own small =
+-- there are 256 slices of 32 bytes each, and this number is in one of them
+pub bits_own : (h i : ℕ) (highs counts slices : List ℕ) → length counts ≤ 256 → IsSlice (length counts) highs → AreSlices counts slices → length slices ≡ 8192
+    → h < 256 → i < 256 → has i (ones_from (number_of (take 32 (drop (32 * h) slices))) 0 256) ≡ has (256 * h + i) (numbers_of (slice_numbers (length counts) highs) counts slices)
+bits_own h i highs counts slices few occur are size small within =
     let hs : List ℕ = slice_numbers (length counts) highs in
-    let h : ℕ = x / 256 in
     let total = slices_size counts slices are in
     let most = lens_most counts in
     let all : length counts ≡ 256 = omega arith in
@@ -119,13 +117,21 @@ bits_all x highs counts slices words few occur are size own small =
     let long = full_len h counts full (omega arith) in
     let count : ℕ = get_or counts h 0 + 1 in
     let (more, some) = is_bits count long in
-    let whole : 256 * h + x % 256 ≡ x = omega arith in
     let range = full_numbers (length counts) highs (omega arith) in
     let high : get_or hs h 0 ≡ h = ap (λ (l : List ℕ). get_or l h 0) range ∙ range_at 0 256 h (omega arith) ∙ omega arith in
     let bytes : slice_at h counts slices ≡ ones_from (number_of (take 32 (drop (32 * h) slices))) 0 256 =
     some_numbers count (take (slice_len count) (drop (slices_len (take h counts)) slices)) more some
     ∙ ap (λ (n : ℕ). ones_from (number_of (take n (drop (slices_len (take h counts)) slices))) 0 256) long
     ∙ ap (λ (n : ℕ). ones_from (number_of (take 32 (drop n slices))) 0 256) start in
-    ap (has_bit words) (sym whole) ∙ own h (x % 256) (omega arith) (omega arith) ∙ ap (has (x % 256)) (sym bytes)
-    ∙ slice_own h (x % 256) hs counts slices occur.rising occur.count_is are (omega arith) (omega arith)
-    ∙ ap (λ (n : ℕ). has (256 * n + x % 256) (numbers_of hs counts slices)) high ∙ ap (λ (n : ℕ). has n (numbers_of hs counts slices)) whole
+    ap (has i) (sym bytes) ∙ slice_own h i hs counts slices occur.rising occur.count_is are (omega arith) (omega arith)
+    ∙ ap (λ (n : ℕ). has (256 * n + i) (numbers_of hs counts slices)) high
+
+pub bits_all : (x : ℕ) (highs counts slices words : List ℕ) → length counts ≤ 256 → IsSlice (length counts) highs → AreSlices counts slices → length slices ≡ 8192
+    → ((high i : ℕ) → high < 256 → i < 256 → has_bit words (256 * high + i) ≡ has i (ones_from (number_of (take 32 (drop (32 * high) slices))) 0 256))
+    → x < 65536 → has_bit words x ≡ has x (numbers_of (slice_numbers (length counts) highs) counts slices)
+bits_all x highs counts slices words few occur are size own small =
+    let h : ℕ = x / 256 in
+    let whole : 256 * h + x % 256 ≡ x = omega arith in
+    ap (has_bit words) (sym whole) ∙ own h (x % 256) (omega arith) (omega arith)
+    ∙ bits_own h (x % 256) highs counts slices few occur are size (omega arith) (omega arith)
+    ∙ ap (λ (n : ℕ). has n (numbers_of (slice_numbers (length counts) highs) counts slices)) whole
