@@ -1,0 +1,18 @@
+-- What the calls on bitmaps in Roaring's portable format return.
+use Rattle.std.specs.Prelude.{◌≡◌, ◌≢◌, ℕ, ◌*◌, ◌⊎◌, ℤ, pos, List, None, Some, MatchOption}
+use Rattle.bitpack_queries.specs.Gathered.{PutsSet}
+use Rattle.bitpack_roaring.specs.Faults.{fault}
+use Rattle.bitpack_roaring.specs.Roaring.{containers, ids_of}
+use Rattle.bitpacking_c.specs.IdSets.{NumbersSet, set_fault_number}
+
+-- the number stands for what is written of the ids of a bitmap, with work space for `space` items; or it is the number of the first fault
+abbrev pub ReadsBitmap : List ℕ → ℕ → List ℕ → List ℕ → ℤ → Type 0
+ReadsBitmap roaring space before after number =
+    MatchOption (fault roaring)
+    (NumbersSet number (λ written. PutsSet space (4 * containers roaring) (ids_of roaring) written before after))
+    (λ found. number ≡ set_fault_number (Some found))
+
+-- the number is how many items of work space a bitmap needs; or there is a fault, and it is the number of the first
+abbrev pub NeedsRoom : List ℕ → ℤ → Type 0
+NeedsRoom roaring number =
+    (number ≡ pos (4 * containers roaring)) ⊎ ((fault roaring ≢ None) × (number ≡ set_fault_number (fault roaring)))
