@@ -547,7 +547,7 @@ size_t bitpacking_set_combine_room(const bitpacking_set *views, size_t views_len
 
 /* Writes the set of the ids of a bitmap at the start of bytes, and returns its number of bytes. The bitmap is what roaring_bitmap_portable_serialize
  * of CRoaring writes, or its counterpart in another language. Accepts any bytes, and tests all of them: they may be untrusted. Bytes after the set
- * may have changed, and any byte if the call fails. A call takes about 160 KB of stack.
+ * may have changed, and any byte if the call fails. A call takes about 40 KB of stack.
  *
  * room is work space, which may hold anything: as many items as bitpacking_set_from_roaring_room returns for the bitmap. The call may change any item.
  * Room for five quarters of the bytes of the bitmap, and 16 more, is usually enough. If the call returns SHORT, double the room:
