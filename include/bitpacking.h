@@ -552,10 +552,9 @@ size_t bitpacking_set_combine_room(const bitpacking_set *views, size_t views_len
  * room is work space, which may hold anything: as many items as bitpacking_set_from_roaring_room returns for the bitmap. The call may change any item.
  * Room for five quarters of the bytes of the bitmap, and 16 more, is usually enough. If the call returns SHORT, double the room:
  *
- *     ptrdiff_t room_len = bitpacking_set_from_roaring_room(roaring, roaring_len);
- *     size_t bytes_len = roaring_len / 4 * 5 + 16;
+ *     size_t room_len = bitpacking_set_from_roaring_room(roaring, roaring_len), bytes_len = roaring_len / 4 * 5 + 16;
  *     ...
- *     ptrdiff_t size = bitpacking_set_from_roaring(roaring, roaring_len, room, (size_t)room_len, bytes, bytes_len);
+ *     ptrdiff_t size = bitpacking_set_from_roaring(roaring, roaring_len, room, room_len, bytes, bytes_len);
  *
  *     a fault       the first in the order of docs/ROARING.md
  *     SHORT         the work space is too short
@@ -566,8 +565,8 @@ ptrdiff_t bitpacking_set_from_roaring(const uint8_t *roaring, size_t roaring_len
                                       size_t bytes_len);
 
 /* Returns how many items of work space bitpacking_set_from_roaring needs for a bitmap: 4 for each container, at most 262,144. It tests the head of
- * the bitmap alone, and returns the number of the first fault there. */
-ptrdiff_t bitpacking_set_from_roaring_room(const uint8_t *roaring, size_t roaring_len);
+ * the bitmap alone, and returns 0 if that has a fault. */
+size_t bitpacking_set_from_roaring_room(const uint8_t *roaring, size_t roaring_len);
 
 /* Writes the set of the ids that a query has at the start of bytes, and returns its number of bytes. It requires views, steps and space as
  * bitpacking_set_query does, and room and bytes as bitpacking_set_combine does, and has the errors of both. *position is written only if the steps

@@ -244,18 +244,15 @@ Datum idset_from_roaring(PG_FUNCTION_ARGS)
 {
     struct varlena *bitmap = PG_GETARG_VARLENA_PP(0), *value = NULL;
     const uint8_t *bytes = (const uint8_t *)VARDATA_ANY(bitmap);
-    size_t len = VARSIZE_ANY_EXHDR(bitmap), room = len / 4 * 5 + 16;
-    ptrdiff_t items = bitpacking_set_from_roaring_room(bytes, len), size = BITPACKING_SHORT;
-    uint32 *work;
+    size_t len = VARSIZE_ANY_EXHDR(bitmap), room = len / 4 * 5 + 16, items = bitpacking_set_from_roaring_room(bytes, len);
+    uint32 *work = new_ids(items);
+    ptrdiff_t size = BITPACKING_SHORT;
 
-    if (items < 0)
-        refuse_bitmap(items);
-    work = new_ids((size_t)items);
     for (; size == BITPACKING_SHORT; room *= 2) {
         if (value)
             pfree(value);
         value = palloc_extended(VARHDRSZ + room, MCXT_ALLOC_HUGE);
-        size = bitpacking_set_from_roaring(bytes, len, work, (size_t)items, (uint8_t *)VARDATA(value), room);
+        size = bitpacking_set_from_roaring(bytes, len, work, items, (uint8_t *)VARDATA(value), room);
     }
     if (size < 0)
         refuse_bitmap(size);

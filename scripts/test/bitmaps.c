@@ -13,10 +13,9 @@ static uint32_t ids[MOST], room[ITEMS + 1];
 /* A bitmap is written as the set in `right`. */
 static void reads(size_t len, ptrdiff_t wanted)
 {
-    const ptrdiff_t needed = bitpacking_set_from_roaring_room(roaring, len);
-    const size_t items = (size_t)needed, size = (size_t)wanted;
+    const size_t items = bitpacking_set_from_roaring_room(roaring, len), size = (size_t)wanted;
 
-    expect(wanted > 0 && needed >= 0 && needed < ITEMS, "too much work space");
+    expect(wanted > 0 && items < ITEMS, "too much work space");
     room[items] = 77;
     set[size] = 0xA5;
     expect(bitpacking_set_from_roaring(roaring, len, room, items, set, size) == wanted, "another size");
@@ -33,11 +32,11 @@ static void reads(size_t len, ptrdiff_t wanted)
 /* Bytes are refused for a fault, which comes before a lack of room. */
 static void refuses(size_t len, ptrdiff_t number)
 {
-    const ptrdiff_t needed = bitpacking_set_from_roaring_room(roaring, len);
+    const size_t items = bitpacking_set_from_roaring_room(roaring, len);
 
     expect(bitpacking_set_from_roaring(roaring, len, room, ITEMS, set, ROOM) == number, "another fault");
     expect(bitpacking_set_from_roaring(roaring, len, NULL, 0, NULL, 0) == number, "another fault without room");
-    expect(needed == number || (needed >= 0 && needed % 4 == 0), "another fault of the head");
+    expect(items <= ITEMS, "too much work space for a fault");
     expect(strcmp(bitpacking_error_text(number), bitpacking_error_text(1)) != 0, "an error without a text");
 }
 
@@ -46,7 +45,7 @@ static void cuts(size_t len)
     refuses(len - 1, BITPACKING_TRUNCATED);
     refuses(len / 2, BITPACKING_TRUNCATED);
     refuses(0, BITPACKING_TRUNCATED);
-    expect(bitpacking_set_from_roaring_room(roaring, 3) == BITPACKING_TRUNCATED, "a cookie of three bytes");
+    expect(bitpacking_set_from_roaring_room(roaring, 3) == 0, "work space for a cookie of three bytes");
     roaring[len] = 0;
     refuses(len + 1, BITPACKING_TRAILING);
 }

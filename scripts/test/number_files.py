@@ -209,7 +209,9 @@ def bitmaps(program):
     why = program.differs((0, b""), *"pack --from roaring --output out bitmap".split())
     yield "a bitmap, to a file", why or other(bytes_of(f"{program.folder}/out"), wanted)
     for row in rows.table("refused_bitmaps.tsv")[::9]:
-        done = subprocess.run([program.path, "pack", "--from", "roaring"], input=rows.octets(row["bytes"]), capture_output=True, check=False)
+        done = subprocess.run(
+            [program.path, "pack", "--from", "roaring"], input=rows.octets(row["bytes"]), capture_output=True, check=False
+        )
         right = (done.returncode, done.stdout, done.stderr[:54]) == (2, b"", b"numbers: standard input: reading a bitmap of Roaring: ")
         yield f"refused bitmap {row['bytes'][:80]}", None if right else done
 

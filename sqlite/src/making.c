@@ -151,20 +151,16 @@ void idset_make(sqlite3_context *context, int count, sqlite3_value **values)
  * bitmap is usually enough. It doubles until it is. */
 static ptrdiff_t of_roaring(const uint8_t *roaring, size_t len, uint8_t **bytes)
 {
-    ptrdiff_t items = bitpacking_set_from_roaring_room(roaring, len), size;
-    size_t room = len / 4 * 5 + 16;
-    uint32_t *work;
+    size_t items = bitpacking_set_from_roaring_room(roaring, len), room = len / 4 * 5 + 16;
+    uint32_t *work = new_ids(items);
+    ptrdiff_t size = work ? BITPACKING_SHORT : NO_MEMORY;
 
-    if (items < 0)
-        return items;
-    work = new_ids((size_t)items);
-    size = work ? BITPACKING_SHORT : NO_MEMORY;
     for (*bytes = NULL; size == BITPACKING_SHORT; room *= 2) {
         sqlite3_free(*bytes);
         if (!(*bytes = sqlite3_malloc64(room)))
             size = NO_MEMORY;
         else
-            size = bitpacking_set_from_roaring(roaring, len, work, (size_t)items, *bytes, room);
+            size = bitpacking_set_from_roaring(roaring, len, work, items, *bytes, room);
     }
     sqlite3_free(work);
     if (size < 0)

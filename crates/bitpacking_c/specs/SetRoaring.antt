@@ -1,5 +1,5 @@
 -- What the calls on bitmaps in Roaring's portable format return.
-use Rattle.std.specs.Prelude.{◌≡◌, ◌≢◌, ℕ, ◌*◌, ◌⊎◌, ℤ, pos, List, None, Some, MatchOption}
+use Rattle.std.specs.Prelude.{◌≡◌, ◌≢◌, ℕ, ◌*◌, ◌⊎◌, ℤ, List, None, Some, MatchOption}
 use Rattle.bitpack_queries.specs.Gathered.{PutsSet}
 use Rattle.bitpack_roaring.specs.Faults.{fault}
 use Rattle.bitpack_roaring.specs.Roaring.{containers, ids_of}
@@ -12,7 +12,6 @@ ReadsBitmap roaring space before after number =
     (NumbersSet number (λ written. PutsSet space (4 * containers roaring) (ids_of roaring) written before after))
     (λ found. number ≡ set_fault_number (Some found))
 
--- the number is how many items of work space a bitmap needs; or there is a fault, and it is the number of the first
-abbrev pub NeedsRoom : List ℕ → ℤ → Type 0
-NeedsRoom roaring number =
-    (number ≡ pos (4 * containers roaring)) ⊎ ((fault roaring ≢ None) × (number ≡ set_fault_number (fault roaring)))
+-- the number of items of work space that are enough: 4 for each container; or 0, if the bitmap has a fault
+abbrev pub NeedsRoom : List ℕ → ℕ → Type 0
+NeedsRoom roaring items = (items ≡ 4 * containers roaring) ⊎ ((fault roaring ≢ None) × (items ≡ 0))

@@ -22,7 +22,7 @@ pub extern "C" fn bitpacking_set_from_roaring(
     room: &mut [u32],
     bytes: &mut [u8],
 ) -> isize
-    // claim: c/45 the set of a bitmap of Roaring, with work space as `set_from_roaring_room` says: as `roaring/2`, with faults as `set_open` has them
+    // claim: c/45 `set_from_roaring`, with work space as `set_from_roaring_room` says: as `roaring/2`; a fault has its number
     ensures { ReadsBitmap roaring.now (length room.old) bytes.old bytes.new result }
 {
     let written = write(roaring, room, bytes);
@@ -36,16 +36,15 @@ pub extern "C" fn bitpacking_set_from_roaring(
     answer(written, &mut position)
 }
 
-/// How many items of work space `bitpacking_set_from_roaring` needs. Tests the head of the bitmap alone: if it has a fault, returns the number of the
-/// first.
+/// How many items of work space `bitpacking_set_from_roaring` needs. Tests the head of the bitmap alone: if it has a fault, 0 are enough.
 #[unsafe(no_mangle)]
 // claim: c/45
-pub extern "C" fn bitpacking_set_from_roaring_room(roaring: &[u8]) -> isize
+pub extern "C" fn bitpacking_set_from_roaring_room(roaring: &[u8]) -> usize
     ensures { NeedsRoom roaring.now result }
 {
     match roaring_room(roaring) {
-        Ok(room) => room as isize,
-        Err(fault) => -20 - fault.number() as isize,
+        Ok(room) => room,
+        Err(_) => 0,
     }
 }
 

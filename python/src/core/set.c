@@ -105,19 +105,17 @@ static PyObject *set_range(PyObject *m, PyObject *args)
 /* The set of a bitmap in Roaring's portable format. Room for five quarters of its bytes is usually enough. It doubles until it is. */
 static Packed *of_roaring(PyTypeObject *type, const uint8_t *bytes, size_t len)
 {
-    ptrdiff_t items = bitpacking_set_from_roaring_room(bytes, len), size = BITPACKING_SHORT;
-    size_t room = len / 4 * 5 + 16;
-    uint32_t *work = items < 0 ? NULL : PyMem_Malloc(4 * (size_t)items + 4);
+    size_t items = bitpacking_set_from_roaring_room(bytes, len), room = len / 4 * 5 + 16;
+    uint32_t *work = PyMem_Malloc(4 * items + 4);
     uint8_t *to = NULL;
     Packed *made = NULL;
+    ptrdiff_t size = BITPACKING_SHORT;
 
-    if (items < 0)
-        return fail(items);
     for (; work && size == BITPACKING_SHORT; room *= 2) {
         PyMem_Free(to);
         if (!(to = PyMem_Malloc(room)))
             break;
-        UNLOCKED(len, size = bitpacking_set_from_roaring(bytes, len, work, (size_t)items, to, room));
+        UNLOCKED(len, size = bitpacking_set_from_roaring(bytes, len, work, items, to, room));
     }
     if (!work || !to)
         PyErr_NoMemory();
