@@ -58,20 +58,21 @@ uint32_t bitpacking_version(void);
 #define BITPACKING_TOO_LONG (-25)    /* more than 268,435,456 values, ids or terms; opened bytes have it too */
 #define BITPACKING_NOT_SORTED (-30)  /* a value or an id is out of order; opened bytes have it too */
 
-/* What is wrong with bytes that are opened: -20 less the number of the fault in docs/FORMAT.md, which has the order of the tests. */
+/* What is wrong with bytes that are opened: -20 less the number of the fault in docs/FORMAT.md, which has the order of the tests. A
+ * bitmap has faults with these numbers in the order of docs/ROARING.md. */
 #define BITPACKING_TRUNCATED (-21)       /* bytes are missing */
-#define BITPACKING_BAD_VERSION (-22)     /* the first byte begins neither a set nor a column, or begins the other */
+#define BITPACKING_BAD_VERSION (-22)     /* the first byte begins neither a set nor a column, or begins the other; bitmaps: there is another cookie */
 #define BITPACKING_BAD_GROUP_WIDTH (-26) /* the width of a group is above 32 */
 #define BITPACKING_LOOSE_WIDTH (-27)     /* a block or a group has a width above its least */
-#define BITPACKING_BAD_OFFSET (-28)      /* a block or a chunk has too few or too many bytes */
+#define BITPACKING_BAD_OFFSET (-28)      /* a block or a chunk has too few or too many bytes; bitmaps: a container has another offset */
 #define BITPACKING_BAD_LAST (-29)        /* columns: a mark is not the last or the least value of its block */
 #define BITPACKING_TRAILING (-31)        /* bytes are left over */
 #define BITPACKING_BAD_NUMBER (-33)      /* a number is not written in its one form, or is out of range */
 #define BITPACKING_PADDING (-34)         /* a bit after the codes of a group is set */
 #define BITPACKING_BAD_SIZES (-36)       /* the byte of sizes does not say the least sizes */
-#define BITPACKING_BAD_KEY (-38)         /* sets: the key of a chunk is not above the one before it */
+#define BITPACKING_BAD_KEY (-38)         /* sets: the key of a chunk is not above the one before it; bitmaps: of a container */
 #define BITPACKING_BAD_SUM (-39)         /* sets: the number of ids of a chunk or of all chunks is wrong */
-#define BITPACKING_BAD_BODY (-40)        /* sets: the bytes of a chunk do not encode its number of ids */
+#define BITPACKING_BAD_BODY (-40)        /* sets: the bytes of a chunk do not encode its number of ids; bitmaps: of a container */
 #define BITPACKING_LOOSE_BODY (-41)      /* sets: the ids of a chunk belong in another form */
 #define BITPACKING_LOOSE_FORM (-42)      /* sets: the ids are an array, and belong in chunks */
 
@@ -118,7 +119,7 @@ static inline const char *bitpacking_error_text(ptrdiff_t number)
     case BITPACKING_LOOSE_WIDTH:
         return "A width is not the least of its block.";
     case BITPACKING_BAD_OFFSET:
-        return "A block or a chunk has too few or too many bytes.";
+        return "A block or a chunk has too few or too many bytes, or a container has another offset.";
     case BITPACKING_BAD_LAST:
         return "A mark is not the last or the least value of its block.";
     case BITPACKING_TRAILING:
@@ -543,6 +544,29 @@ ptrdiff_t bitpacking_set_combine(uint32_t operation, const bitpacking_set *views
 /* Returns how many items of work space bitpacking_set_combine and bitpacking_set_query_pack need for these sets: 4 for each chunk, or for each id of
  * a set that is not in chunks, but at most 262,144. */
 size_t bitpacking_set_combine_room(const bitpacking_set *views, size_t views_len);
+
+/* Writes the set of the ids of a bitmap at the start of bytes, and returns its number of bytes. The bitmap is what roaring_bitmap_portable_serialize
+ * of CRoaring writes, or its counterpart in another language. Accepts any bytes, and tests all of them: they may be untrusted. Bytes after the set
+ * may have changed, and any byte if the call fails. A call takes about 40 KB of stack.
+ *
+ * room is work space, which may hold anything: as many items as bitpacking_set_from_roaring_room returns for the bitmap. The call may change any item.
+ * Room for five quarters of the bytes of the bitmap, and 16 more, is usually enough. If the call returns SHORT, double the room:
+ *
+ *     size_t room_len = bitpacking_set_from_roaring_room(roaring, roaring_len), bytes_len = roaring_len / 4 * 5 + 16;
+ *     ...
+ *     ptrdiff_t size = bitpacking_set_from_roaring(roaring, roaring_len, room, room_len, bytes, bytes_len);
+ *
+ *     a fault       the first in the order of docs/ROARING.md
+ *     SHORT         the work space is too short
+ *     TOO_LONG      there are more than 268,435,456 ids
+ *     SHORT         bytes_len is below the bytes of the set: BITPACKING_SET_ROOM(its ids) are always enough
+ */
+ptrdiff_t bitpacking_set_from_roaring(const uint8_t *roaring, size_t roaring_len, uint32_t *room, size_t room_len, uint8_t *bytes,
+                                      size_t bytes_len);
+
+/* Returns how many items of work space bitpacking_set_from_roaring needs for a bitmap: 4 for each container, at most 262,144. It tests the head of
+ * the bitmap alone, and returns 0 if that has a fault. */
+size_t bitpacking_set_from_roaring_room(const uint8_t *roaring, size_t roaring_len);
 
 /* Writes the set of the ids that a query has at the start of bytes, and returns its number of bytes. It requires views, steps and space as
  * bitpacking_set_query does, and room and bytes as bitpacking_set_combine does, and has the errors of both. *position is written only if the steps

@@ -230,6 +230,36 @@ Datum idset_of_bytea(PG_FUNCTION_ARGS)
     PG_RETURN_POINTER(value);
 }
 
+/* Fails with what is wrong with a bitmap in Roaring's portable format. */
+static void pg_attribute_noreturn() refuse_bitmap(ptrdiff_t number)
+{
+    if (number == BITPACKING_TOO_LONG)
+        refuse(number);
+    ereport(ERROR, (errcode(ERRCODE_INVALID_BINARY_REPRESENTATION), errmsg("invalid bitmap of Roaring: %s", text_of(number))));
+}
+
+/* The set of a bitmap. Room for five quarters of its bytes is usually enough. It doubles until it is. */
+PG_FUNCTION_INFO_V1(idset_from_roaring);
+Datum idset_from_roaring(PG_FUNCTION_ARGS)
+{
+    struct varlena *bitmap = PG_GETARG_VARLENA_PP(0), *value = NULL;
+    const uint8_t *bytes = (const uint8_t *)VARDATA_ANY(bitmap);
+    size_t len = VARSIZE_ANY_EXHDR(bitmap), room = len / 4 * 5 + 16, items = bitpacking_set_from_roaring_room(bytes, len);
+    uint32 *work = new_ids(items);
+    ptrdiff_t size = BITPACKING_SHORT;
+
+    for (; size == BITPACKING_SHORT; room *= 2) {
+        if (value)
+            pfree(value);
+        value = palloc_extended(VARHDRSZ + room, MCXT_ALLOC_HUGE);
+        size = bitpacking_set_from_roaring(bytes, len, work, items, (uint8_t *)VARDATA(value), room);
+    }
+    if (size < 0)
+        refuse_bitmap(size);
+    pfree(work);
+    PG_RETURN_POINTER(ended(value, (size_t)size));
+}
+
 /* A copy of the bytes: the cast to bytea, and what is sent in the binary form. Replication frees it. */
 PG_FUNCTION_INFO_V1(idset_send);
 Datum idset_send(PG_FUNCTION_ARGS)

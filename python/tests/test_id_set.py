@@ -12,6 +12,8 @@ from fimulowen.values import index, u32
 from hypothesis import given
 from hypothesis import strategies as st
 
+from bitmaps import bitmap
+
 try:
     import pandas
 except ImportError:  # the package does not need it
@@ -32,6 +34,43 @@ def arrays(draw, most=3000):
     if draw(st.integers(0, 9)) == 0:
         ids = np.union1d(ids, np.arange(65536) + (draw(st.integers(0, 3)) << 16))
     return ids[(ids >= 0) & (ids <= MOST)].astype("u4")
+
+
+@given(arrays(9000), st.booleans())
+def test_bitmaps(ids, as_runs):
+    assert IdSet.from_roaring(bitmap(ids, as_runs and len(ids) > 0)) == IdSet(ids)
+
+
+def test_bitmaps_of_each_kind():
+    """A set may have many more bytes than the bitmap. Memory is copied if it is not constant."""
+    ids = np.flatnonzero(np.arange(1_000_000) % 1000 < 500)
+    text, packed = bitmap(ids, True), IdSet(ids)
+    assert packed.nbytes > 6 * len(text)
+    for form in (text, bytearray(text), memoryview(text), np.frombuffer(text, "u1"), np.repeat(np.frombuffer(text, "u1"), 2)[::2]):
+        assert IdSet.from_roaring(form) == packed
+    assert IdSet.from_roaring(bitmap(np.arange(5_000_000), False)) == IdSet(range(5_000_000))
+
+    class Mine(IdSet):
+        pass
+
+    assert type(Mine.from_roaring(text)) is Mine
+    for wrong in (None, "text", 5, [1], range(3), packed):
+        with pytest.raises(TypeError):
+            IdSet.from_roaring(wrong)
+    full = bitmap(np.arange(65536), True)[9:]  # its one run
+    key = lambda m: m.to_bytes(2, "little") + b"\xff\xff"
+    for count in (4096, 4097):
+        head = b"\x3B\x30" + (count - 1).to_bytes(2, "little") + ((1 << count) - 1).to_bytes((count + 7) // 8, "little")
+        offsets = (len(head) + 8 * count + 6 * np.arange(count)).astype("<u4").tobytes()
+        many = head + b"".join(map(key, range(count))) + offsets + count * full
+        if count == 4096:
+            assert IdSet.from_roaring(many) == IdSet(range(1 << 28))
+        else:
+            with pytest.raises(Error, match="more than 268435456") as raised:
+                IdSet.from_roaring(many)
+            assert raised.value.fault == "TooLong"
+    with pytest.raises(Error, match="^Bytes are missing. \\(Short\\)$"):
+        IdSet.from_roaring(text[:-1])
 
 
 def test_ranges():

@@ -38,6 +38,7 @@ def sets_round(ids, text, bounds):
         call(packed, other), call(packed, alone), call(alone, other, packed), call(packed)
     packed == other, packed == IdSet(ids), packed <= other, other < packed, packed >= other, packed > other, packed != other
     packed.isdisjoint(alone), packed.issubset(ids), packed.issuperset([5]), hash(packed), repr(packed), np.asarray(packed)
+    IdSet.from_roaring(bytearray(BITMAP))
     IdSet.open_many(*IdSet.pack_many(ids, bounds)), IdSet.open(bytearray(text)), IdSet.open(packed.data), IdSet(packed)
     pickle.loads(pickle.dumps(packed, 5)), pickle.loads(pickle.dumps(packed, 2)), copy.copy(packed), packed.data.tobytes(), packed.nbytes
     packed.__arrow_c_array__(), packed.__arrow_c_schema__(), IdSet(ids[::-1]), IdSet(ids.tolist()), IdSet(iter(ids.tolist())), IdSet(
@@ -61,6 +62,10 @@ def refused_round(ids, text, bounds):
         lambda: IdSet.open(text[:-1]),
         lambda: IdSet.open(bytearray(text[:-1])),
         lambda: IdSet.open(None),
+        lambda: IdSet.from_roaring(BITMAP[:-1]),
+        lambda: IdSet.from_roaring(bytearray(BITMAP[:7])),
+        lambda: IdSet.from_roaring(None),
+        lambda: core.set_from_roaring(int, BITMAP),
         lambda: IdSet([-1]),
         lambda: IdSet(["a"]),
         lambda: IdSet(np.array([1, 1 << 40])),
@@ -120,6 +125,7 @@ def refused_round(ids, text, bounds):
         refused(call)
 
 
+BITMAP = bytes.fromhex("3B30000001000009000100000009 00")
 TABLE = np.repeat(np.arange(3), 256).reshape(3, 256)
 ROUNDS = [sets_round, refused_round]
 

@@ -11,6 +11,7 @@ import numpy as np
 import pytest
 from fimulowen import IdSet, _core
 
+from bitmaps import bitmap
 from test_id_set import RANDOM
 
 INTERSECT, UNITE, SUBTRACT, XOR = range(4)
@@ -46,7 +47,7 @@ class Long:
         self.a, self.b, self.copy = IdSet(self.ids), IdSet(self.others), IdSet(self.ids)
         self.even, self.odd = IdSet(range(0, 2_000_000, 2)), IdSet(range(1, 2_000_000, 2))
         self.kept = self.even.unpack()
-        self.pair, self.data = (self.a, self.b), self.a.tobytes()
+        self.pair, self.data, self.bitmap = (self.a, self.b), self.a.tobytes(), bitmap(self.ids, False)
         self.bounds, self.two = np.array([0, len(self.ids)]), np.array([0, len(self.data)])
         self.positions, self.far = np.arange(len(self.ids)), np.arange(50_000)
         self.out, self.wide, self.blocks = np.empty(len(self.ids), "u4"), np.empty(len(self.ids), "i8"), self.ids[: 1 << 19]
@@ -64,6 +65,7 @@ UNLOCKED = {
     "set_pack_many": lambda it: _core.set_pack_many(it.ids, it.bounds),
     "set_open": lambda it: _core.set_open(IdSet, it.data),
     "set_open_many": lambda it: _core.set_open_many(IdSet, it.data, it.two),
+    "set_from_roaring": lambda it: _core.set_from_roaring(IdSet, it.bitmap),
     "set_append": lambda it: _core.set_append(IdSet, it.a, it.ids[:0]),
     "intersect": lambda it: _core.set_combine(INTERSECT, it.pair),
     "unite": lambda it: _core.set_combine(UNITE, it.pair),

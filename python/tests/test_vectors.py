@@ -39,6 +39,25 @@ def test_refused_sets():
     assert len(tried) >= 15
 
 
+def test_bitmaps():
+    """Bitmaps in Roaring's portable format: what CRoaring and the model of vectors/ write."""
+    found = rows("bitmaps")
+    assert len(found) > 150
+    for row in found:
+        packed = IdSet.from_roaring(data(row["bytes"]))
+        assert packed == IdSet(np.array(numbers(row["ids"]), "u4")), row
+
+
+def test_refused_bitmaps():
+    tried = set()
+    for row in rows("refused_bitmaps"):
+        with pytest.raises(Error) as raised:
+            IdSet.from_roaring(data(row["bytes"]))
+        assert raised.value.fault == fault(row["fault"])[0] and raised.value.byte is raised.value.position is None, row
+        tried.add(raised.value.fault)
+    assert tried == {"Short", "BadVersion", "BadNumber", "BadKey", "BadOffset", "NotSorted", "BadBody", "Trailing"}
+
+
 def test_two_sets():
     calls = {"both": (operator.and_, fimulowen.intersect)}
     for row in rows("combined_id_sets"):

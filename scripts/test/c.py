@@ -1,8 +1,8 @@
 #!/usr/bin/env python3
 """Compiles and runs C programs over the archive for all levels of the processor and that of each level: those of examples/, whose output is
-worked by hand, calls.c, ranking.c and pages.c, id_sets.c and columns.c over the tables of vectors/, and cases.c, random cases. They are C99 with
-every warning an error, run with little stack, and once more with the address sanitizer. calls.c is also C++11 and C++17. In qemu all run on
-aarch64, those that read no table on an x86-64 of each level, and three over the Rust crate on aarch64. The header has no warning of gcc or
+worked by hand, calls.c, ranking.c and pages.c, id_sets.c, bitmaps.c and columns.c over the tables of vectors/, and cases.c, random cases. They are
+C99 with every warning an error, run with little stack, and once more with the address sanitizer. calls.c is also C++11 and C++17. In qemu all run
+on aarch64, those that read no table on an x86-64 of each level, and three over the Rust crate on aarch64. The header has no warning of gcc or
 clang, from C99 to C23 and from C++11 to C++20, for 64 and 32 bits.
 
 A part that lacks a tool is left out, and named.
@@ -27,6 +27,7 @@ C99 = ["cc", "-std=c99", *STRICT]
 CROSS, QEMU = "aarch64-linux-gnu-gcc", "qemu-aarch64-static"
 CALLS = "scripts/test/calls.c"
 ID_SETS = "scripts/test/id_sets.c"
+BITMAPS = "scripts/test/bitmaps.c"
 COLUMN_TABLES = "scripts/test/columns.c"
 RANKING = "scripts/test/ranking.c"
 RANDOM = "scripts/test/cases.c"
@@ -75,12 +76,17 @@ PROGRAMS = {
     CALLS: "all calls\n",
     # Each row of the tables that it is given.
     ID_SETS: "563 sets, 3031 refusals, 189 pairs\n",
+    BITMAPS: "165 bitmaps, 614 refusals\n",
     COLUMN_TABLES: "727 columns, 2605 refusals\n",
     RANKING: "all calls\n",
     RANDOM: "340 cases\n",
     PAGES: "all calls\n",
 }
-VECTORS = {ID_SETS: ["id_sets", "refused_id_sets", "combined_id_sets"], COLUMN_TABLES: ["columns", "refused_columns"]}
+VECTORS = {
+    ID_SETS: ["id_sets", "refused_id_sets", "combined_id_sets"],
+    BITMAPS: ["bitmaps", "refused_bitmaps"],
+    COLUMN_TABLES: ["columns", "refused_columns"],
+}
 
 
 @functools.cache

@@ -22,6 +22,7 @@ sys.path.insert(1, f"{sys.path[0]}/..")
 from common import ROOT, reported, run, source
 import changes
 from files import bytes_of, changed, failed, other, written
+import rows
 import trying
 import vectors
 
@@ -55,6 +56,8 @@ WRONG_CALLS = {
     "unpack --as set": "unknown option --as",
     "pack --as column": "KIND is set, sorted or plain",
     "pack --sort --as plain": "a plain column is not sorted: --as sorted is",
+    "pack --from lists": "FORMAT is roaring",
+    **{f"pack {it} --from roaring": "only --output may be beside --from" for it in ("--sort", "--binary", "--as set")},
     "head --lines -1 set": "'-1' is not a number from 0 to 4294967295",
     "rank set": "an operand is missing",
     "contains set 1.0": "'1.0' is not a number from 0 to 4294967295",
@@ -77,6 +80,8 @@ FAILING = {
     },
     **{it: CUT for it in ("unpack cut", "head cut", "describe cut", "get cut 0", "between cut 0 1", "and cut set", "xor set cut")},
     **{it: CUT for it in ("rank cut 1", "contains cut 1", "sum cut")},
+    "pack --from roaring cut": "cut: reading a bitmap of Roaring: bytes are missing",
+    "pack --from roaring set": "set: reading a bitmap of Roaring: 130 is the first byte of no set",
     "unpack .": ".: Is a directory (os error 21)",
     **{f"{it} set column": "column: it is a column, not a set" for it in ("and", "or", "not", "xor")},
     "seek plain 2": "plain: the column is plain",
@@ -193,6 +198,22 @@ def packing(program):
             yield f"check of {name}", program.differs((0, line), "check", "-", given=content)
     program.write(few=packed("set", [7, 9]))
     yield from ((call, program.differs((1, b""), *call.split())) for call in ("seek few 10", "between few 0 6"))
+
+
+def bitmaps(program):
+    """The bitmaps of vectors/ are packed, from standard input and from a file to a file, and bytes that are none are refused."""
+    for number, row in enumerate(rows.table("bitmaps.tsv")):
+        given, wanted = rows.octets(row["bytes"]), packed("set", [*rows.spelled_ids(row["ids"])])
+        yield f"bitmap {number}", program.differs((0, wanted), *"pack --from roaring".split(), given=given)
+    program.write(bitmap=given)
+    why = program.differs((0, b""), *"pack --from roaring --output out bitmap".split())
+    yield "a bitmap, to a file", why or other(bytes_of(f"{program.folder}/out"), wanted)
+    for row in rows.table("refused_bitmaps.tsv")[::9]:
+        done = subprocess.run(
+            [program.path, "pack", "--from", "roaring"], input=rows.octets(row["bytes"]), capture_output=True, check=False
+        )
+        right = (done.returncode, done.stdout, done.stderr[:54]) == (2, b"", b"numbers: standard input: reading a bitmap of Roaring: ")
+        yield f"refused bitmap {row['bytes'][:80]}", None if right else done
 
 
 def questions(program):
@@ -347,7 +368,7 @@ def checks():
         program = Program(folder)
         yield from of_page(program)
         if os.path.exists(program.path):
-            for part in ordering, packing, questions, great, texts, combining, failing, outputs:
+            for part in ordering, packing, bitmaps, questions, great, texts, combining, failing, outputs:
                 yield from part(program)
     with tempfile.TemporaryDirectory(prefix="numbers-wrong-") as folder:
         yield from wrong_changes(folder)

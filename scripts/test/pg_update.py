@@ -2,7 +2,9 @@
 indexes stay in use, dumps are restored, and the objects are those that CREATE EXTENSION makes. A base script of the newest version that lacks one
 is found."""
 
-from common import run
+import re
+
+from common import run, source
 from files import bytes_of, other, written
 import pg_server
 
@@ -88,7 +90,7 @@ def checks(extension, server):
     names = [{it.partition("|")[0] for it in its} for its in (old, new)]
     yield "no object of 1.0 that others use is gone", other(sorted(names[0] - names[1]), ["function idset_rows(internal)"])
     place = f"{extension.programs.folder}{pg_server.config('sharedir')}/extension"
-    scripts = [bytes_of(f"{extension.sources}/idset--{it}.sql").decode() for it in ("1.0", f"1.0--{newest}")]
+    scripts = [bytes_of(f"{extension.sources}/{it}").decode() for it in re.findall(r"idset--[\d.-]+\.sql", source("postgres/Makefile"))]
     wrong = "".join(it.partition("\\quit")[2] for it in scripts).replace("COST 20", "COST 21", 1)
     written(place, {"idset--wrong.sql": wrong})
     server.rows("CREATE EXTENSION idset VERSION 'wrong'", "lacking")

@@ -10,16 +10,18 @@
 #include <stdlib.h>
 #include <string.h>
 
-enum { LINE = 1 << 21, COLUMNS = 3, TABLES = 4 };
+enum { LINE = 1 << 21, COLUMNS = 3, TABLES = 5 };
 
 /* The table of the row that was read last. */
 static enum {
     ID_SETS,
-    REFUSED_BYTES, /* of id sets, or of columns */
+    REFUSED_BYTES, /* of id sets, of columns or of bitmaps */
     COMBINED_ID_SETS,
-    VALUES_OF_COLUMNS
+    VALUES_OF_COLUMNS,
+    BITMAPS
 } table;
-static const char *const heads[TABLES] = {"ids\tbytes", "number\tfault\tbytes", "ids\tothers\tboth", "kind\tvalues\tbytes"};
+static const char *const heads[TABLES] = {"ids\tbytes", "number\tfault\tbytes", "ids\tothers\tboth", "kind\tvalues\tbytes",
+                                          "ids\tbytes\tcroaring"};
 
 static char line[LINE];
 static int failed;

@@ -8,7 +8,7 @@ import decoders
 import pytest
 from databases import TOP, connected, packed, refusal, unpacked, value
 
-OF_ONE = ["len", "min", "max"]
+OF_ONE = ["from_roaring", "len", "min", "max"]
 OF_A_NUMBER = ["contains", "rank", "seek", "add", "remove"]
 OF_SETS = [f"{name}{kind}" for name in ("intersect", "unite", "subtract", "xor") for kind in ("", "_len")]
 AGGREGATES = ["unite_agg", "intersect_agg"]
@@ -23,6 +23,7 @@ REFUSED = {
     "idset_len('[1]')": "idset_len: argument 1 is text, and not a set: idset(..) makes one",
     "idset_unite(idset(1), 5)": "idset_unite: argument 2 is an integer, and not a set: idset(..) makes one",
     "idset_len(x'')": "idset_len: argument 1 is not a set: bytes are missing",
+    "idset_from_roaring(7)": "idset_from_roaring: argument 1 is not a blob, and so not a bitmap",
     "idset_contains(idset(1), 'x')": "idset_contains: argument 2 is text, and not an integer",
     "idset_contains(idset(1), x'31')": "idset_contains: argument 2 is a blob, and not an integer",
     "idset_rank(idset(1), 1.5)": "idset_rank: argument 2 is a real number, and not an integer",
@@ -120,7 +121,7 @@ def test_numbers_as_texts(db):
 def test_flags(db):
     """All functions are deterministic, so that an index may have them, and innocuous, so that a schema may."""
     rows = db.execute("SELECT DISTINCT name, flags FROM pragma_function_list WHERE name LIKE 'idset%'").fetchall()
-    assert len(rows) == 21 and all(flags & 0x800 and flags & 0x200000 for _, flags in rows)
+    assert len(rows) == 22 and all(flags & 0x800 and flags & 0x200000 for _, flags in rows)
     db.execute("PRAGMA trusted_schema = OFF")
     db.execute("CREATE TABLE tags (ids BLOB CHECK (idset(ids) IS ids), many INT AS (idset_len(ids)))")
     db.execute("CREATE INDEX least ON tags (idset_min(ids))")
@@ -174,6 +175,16 @@ def test_refused_bytes_of_the_vectors(db):
         for name in ["idset", "idset_len", "idset_unite_agg"]:
             assert refusal(db, f"SELECT {name}(?)", data(row["bytes"])) == (f"{name}: {wanted}", "SQLITE_ERROR")
         assert refusal(db, "SELECT * FROM idset_each(?)", data(row["bytes"])) == (f"idset_each: {wanted}", "SQLITE_ERROR")
+    assert len(found) > 100
+
+
+def test_bitmaps_of_the_vectors(db):
+    for row in rows("bitmaps"):
+        assert unpacked(db, value(db, "SELECT idset_from_roaring(?)", data(row["bytes"]))) == numbers(row["ids"])
+    words, found = faults(), rows("refused_bitmaps")
+    for row in found:
+        wanted = f"idset_from_roaring: argument 1 is not a bitmap of Roaring: {words[-20 - int(row['number'])]}"
+        assert refusal(db, "SELECT idset_from_roaring(?)", data(row["bytes"])) == (wanted, "SQLITE_ERROR")
     assert len(found) > 100
 
 

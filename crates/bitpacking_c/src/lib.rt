@@ -30,6 +30,7 @@ mod set_packing;
 mod set_pairs;
 mod set_positions;
 mod set_query;
+mod set_roaring;
 mod set_view;
 mod set_wide;
 mod term_view;

@@ -24,8 +24,25 @@ fn packed(kind: Option<Kind>, values: &[u32]) -> Result<Vec<u8>> {
     }
 }
 
-/// The numbers are tested as they are read, unless they are sorted afterwards.
 pub fn pack(call: &Call) -> Result<bool> {
+    let is_alone = !["--as", "--sort", "--binary"].iter().any(|option| call.has(option));
+    let bytes = match call.value("--from").map(OsStr::to_str) {
+        None => packed_numbers(call)?,
+        Some(Some("roaring")) if is_alone => packed_bitmap(&call.operands[0])?,
+        Some(Some("roaring")) => return Err(call.wrong("only --output may be beside --from")),
+        Some(_) => return Err(call.wrong("FORMAT is roaring")),
+    };
+    Output::new(call.value("--output"), false)?.end(&bytes).map(|()| true)
+}
+
+/// The bytes of the set of a bitmap in Roaring's portable format.
+fn packed_bitmap(file: &OsStr) -> Result<Vec<u8>> {
+    let set = IdSetBuf::from_roaring(&bytes_of(file)?);
+    set.map(IdSetBuf::into_bytes).map_err(|error| about(file, format!("reading a bitmap of Roaring: {error}")))
+}
+
+/// The numbers are tested as they are read, unless they are sorted afterwards.
+fn packed_numbers(call: &Call) -> Result<Vec<u8>> {
     let (file, sorts) = (&call.operands[0], call.has("--sort"));
     let (kind, order) = match call.value("--as").map_or(Some("set"), OsStr::to_str) {
         Some("set") => (None, RISING),
@@ -41,8 +58,7 @@ pub fn pack(call: &Call) -> Result<bool> {
     if sorts && kind.is_none() {
         values.dedup();
     }
-    let bytes = packed(kind, &values).map_err(|what| about(file, what))?;
-    Output::new(call.value("--output"), false)?.end(&bytes).map(|()| true)
+    packed(kind, &values).map_err(|what| about(file, what))
 }
 
 /// Writes the first numbers. It unpacks a piece of them at a time.

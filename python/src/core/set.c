@@ -102,6 +102,47 @@ static PyObject *set_range(PyObject *m, PyObject *args)
     return made;
 }
 
+/* The set of a bitmap in Roaring's portable format. Room for five quarters of its bytes is usually enough. It doubles until it is. */
+static Packed *of_roaring(PyTypeObject *type, const uint8_t *bytes, size_t len)
+{
+    size_t items = bitpacking_set_from_roaring_room(bytes, len), room = len / 4 * 5 + 16;
+    uint32_t *work = PyMem_Malloc(4 * items + 4);
+    uint8_t *to = NULL;
+    Packed *made = NULL;
+    ptrdiff_t size = BITPACKING_SHORT;
+
+    for (; work && size == BITPACKING_SHORT; room *= 2) {
+        PyMem_Free(to);
+        if (!(to = PyMem_Malloc(room)))
+            break;
+        UNLOCKED(len, size = bitpacking_set_from_roaring(bytes, len, work, items, to, room));
+    }
+    if (!work || !to)
+        PyErr_NoMemory();
+    else if (size < 0)
+        fail(size);
+    else
+        made = set_of(type, to, (size_t)size);
+    PyMem_Free(work);
+    PyMem_Free(to);
+    return made;
+}
+
+/* set_from_roaring(type, data): the set of a bitmap. Nothing else writes the data. */
+static PyObject *set_from_roaring(PyObject *m, PyObject *args)
+{
+    PyObject *type, *data;
+    Packed *made;
+    Py_buffer in;
+
+    (void)m;
+    if (!PyArg_ParseTuple(args, "OO", &type, &data) || !subtype_of(Set_type, type) || PyObject_GetBuffer(data, &in, PyBUF_SIMPLE) < 0)
+        return NULL;
+    made = of_roaring((PyTypeObject *)type, in.buf, (size_t)in.len);
+    PyBuffer_Release(&in);
+    return (PyObject *)made;
+}
+
 /* The set of the ids of a view and of these after them. */
 static Packed *appended(PyTypeObject *type, const bitpacking_set *view, const uint32_t *ids, size_t len)
 {
@@ -159,6 +200,7 @@ PyMethodDef set_functions[] = {
     {"set_open", set_open, METH_VARARGS, SIGNED("set_open(type, data, /)", "A set.")},
     {"set_open_many", set_open_many, METH_VARARGS, SIGNED("set_open_many(type, data, bounds, /)", "Sets.")},
     {"set_range", set_range, METH_VARARGS, SIGNED("set_range(type, first, end, /)", "The set of the ids of a range.")},
+    {"set_from_roaring", set_from_roaring, METH_VARARGS, SIGNED("set_from_roaring(type, data, /)", "The set of a bitmap.")},
     {"set_pack", set_pack, METH_VARARGS, SIGNED("set_pack(type, ids, /)", "A set, or None if the ids do not increase.")},
     {"set_append", set_append, METH_VARARGS, SIGNED("set_append(type, set, ids, /)", "A set.")},
     {NULL, NULL, 0, NULL},

@@ -56,6 +56,17 @@ class IdSet(_core.Set):
         return waiting.run(memoryview(held).nbytes, _core.set_open, cls, held)
 
     @classmethod
+    def from_roaring(cls, data: Bytes) -> IdSet:
+        """The set of a bitmap in Roaring's portable format: what `serialize` of a `pyroaring.BitMap` returns, or its counterpart of another library.
+
+            >>> list(IdSet.from_roaring(bytes.fromhex("3A300000 01000000 0000 0100 10000000 0300 0700")))
+            [3, 7]
+
+        It tests all bytes, and raises Error with the first fault, without its place. Error too if there are more than 268,435,456 ids."""
+        held = constant(data)
+        return waiting.run(memoryview(held).nbytes, _core.set_from_roaring, cls, held)
+
+    @classmethod
     def open_many(cls, data: Bytes, bounds: Integers) -> List[IdSet]:
         """The sets at data[bounds[i]:bounds[i + 1]], which all share the one buffer. Error, with the number of the set."""
         return _core.set_open_many(cls, constant(data), index(bounds))
