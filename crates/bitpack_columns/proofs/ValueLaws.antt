@@ -1,6 +1,9 @@
 -- Values of codes, one after the other.
-use Rattle.std.proofs.Common.{◌≡◌, ℕ, zero, suc, ◌+◌, ◌%◌, ◌^◌, ◌<◌, List, [], ◌∷◌, length, take, drop, get_or, set, refl, sym, ◌∙◌, ap, arith}
+use Rattle.std.proofs.Common.{◌≡◌, ◌⊎◌, ℕ, zero, suc, ◌+◌, ◌-◌, ◌%◌, ◌^◌, ◌<◌, ◌≤◌, List, [], ◌∷◌, length, min, take, drop, get_or, set, bit_and, refl, sym, ◌∙◌, ap, arith, inl, inr}
+use Rattle.std.proofs.lemmas.Bool.{cases_lt}
 use Rattle.std.proofs.lemmas.List.{drop-drop, drop-set-lt, drop_more, get_or-drop}
+use Rattle.std.proofs.lemmas.Nat.{and_mask}
+use Rattle.std.specs.Int.Bits.{and_zero_r}
 use Rattle.bitpack_groups.proofs.ForCallers.{IsFilled, fill_one}
 use Rattle.bitpack_columns.specs.declared.column_kind.ColumnKind.TheVariants.{Sorted}
 use Rattle.bitpack_columns.specs.Reads.{values_of}
@@ -69,3 +72,28 @@ pub take-sums : (count before : ℕ) (codes : List ℕ) → values_of Sorted bef
 take-sums zero before codes = refl
 take-sums (suc count) before [] = refl
 take-sums (suc count) before (code ∷ codes) = ap (λ xs. (before + code) % 2 ^ 32 ∷ xs) (take-sums count (before + code) codes)
+
+-- one code more is added, or after the last one 0
+module _ (before value index last mask : ℕ) (codes : List ℕ) (lt : index < length codes) (small : value < 2 ^ 32)
+    (all : index ≤ last → mask ≡ 2 ^ 32 - 1) (none : last < index → mask ≡ 0)
+    (e : value ≡ get_or (before ∷ values_of Sorted before codes) (min index (last + 1)) 0) where
+  abbrev pub IsNext : Type 0
+  IsNext = (value + bit_and (get_or codes index 0) mask) % 2 ^ 32 ≡ get_or (before ∷ values_of Sorted before codes) (min (index + 1) (last + 1)) 0
+
+  choose : (last < index) ⊎ (index ≤ last) → IsNext
+  choose (inl after) =
+      let left : bit_and (get_or codes index 0) mask ≡ 0 = ap (bit_and (get_or codes index 0)) (none after) ∙ and_zero_r (get_or codes index 0) in
+      let here : min index (last + 1) ≡ min (index + 1) (last + 1) = omega arith in
+      let same : (value + bit_and (get_or codes index 0) mask) % 2 ^ 32 ≡ value = omega (arith, left, small) in
+      same ∙ e ∙ ap (λ n. get_or (before ∷ values_of Sorted before codes) n 0) here
+  choose (inr within) =
+      let kept : bit_and (get_or codes index 0) mask ≡ get_or codes index 0 % 2 ^ 32 =
+      ap (bit_and (get_or codes index 0)) (all within) ∙ and_mask (get_or codes index 0) 32 in
+      let here : min index (last + 1) ≡ index = omega arith in
+      let next : suc index ≡ min (index + 1) (last + 1) = omega arith in
+      let sum : (value + bit_and (get_or codes index 0) mask) % 2 ^ 32 ≡ (value + get_or codes index 0) % 2 ^ 32 = omega (arith, kept) in
+      sum ∙ ap (λ v. (v + get_or codes index 0) % 2 ^ 32) (e ∙ ap (λ n. get_or (before ∷ values_of Sorted before codes) n 0) here)
+      ∙ sym (sums-next before codes index lt) ∙ ap (λ n. get_or (before ∷ values_of Sorted before codes) n 0) next
+
+  pub masked-next : IsNext
+  masked-next = choose (cases_lt last index)

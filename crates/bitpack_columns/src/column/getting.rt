@@ -1,7 +1,7 @@
 //! The values at positions of a column.
 //! FORMAT.md, "Columns" and "Layout".
 
-ghost use Rattle.std.specs.Prelude.{◌≡◌, ℕ, ◌+◌, ◌-◌, ◌*◌, ◌/◌, ◌%◌, ◌^◌, ◌<◌, ◌≤◌, IfErr, MatchOption, OnErr, OnOk, drop, length, slice_get, slice_index, true};
+ghost use Rattle.std.specs.Prelude.{◌≡◌, ℕ, ◌+◌, ◌-◌, ◌*◌, ◌/◌, ◌%◌, ◌^◌, ◌<◌, ◌≤◌, ◌++◌, IfErr, MatchOption, OnErr, OnOk, drop, length, replicate, slice_get, slice_index, true};
 ghost use Rattle.bitpack_columns.specs.declared.column_kind.ColumnKind.TheVariants.{Plain, Sorted};
 ghost use Rattle.bitpack_columns.specs.Gathering.{AreWithin, CachesBlock, HasValues};
 ghost use Rattle.bitpack_columns.specs.Columns.{block_of};
@@ -59,7 +59,7 @@ impl<'a> Column<'a> {
             ColumnKind::Sorted => {
                 let mut codes = [0; BLOCK_LEN];
                 reads.unpack_codes(self, block, &mut codes);
-                sum(reads.read_before(self, block), &codes[..index + 1])
+                sum(reads.read_before(self, block), &codes, index)
             }
         }
     }
@@ -167,17 +167,54 @@ impl LastBlock {
     }
 }
 
-/// The sum of a number and codes, modulo 2 to the power of 32.
-fn sum(before: u32, codes: &[u32]) -> u32
-    requires { 1 ≤ length codes.now }
-    ensures { result ≡ slice_index (values_of Sorted before codes.now) (length codes.now - 1) }
+/// The sum of a number and the codes up to an index, modulo 2 to the power of 32. It adds all codes, and those after the index as 0, so that the
+/// compiler adds several at once.
+#[inline(always)]
+fn sum(before: u32, codes: &[u32; 128], last: usize) -> u32
+    requires { last < 128 }
+    ensures { result ≡ slice_index (values_of Sorted before codes.now) last }
 {
+    let masks = masks_up_to(last);
     let mut value = before;
-    for index in 0..codes.len() {
-        value = value.wrapping_add(codes[index]);
+    for index in 0..BLOCK_LEN {
+        value = value.wrapping_add(codes[index] & masks[index]);
     }
     value
 }
+
+/// Of 128 numbers the first up to an index have all bits, the others none.
+#[inline(always)]
+fn masks_up_to(last: usize) -> &'static [u32]
+    requires { last < 128 }
+    ensures len { length result.now ≡ 128 }
+    ensures all { (k : ℕ) → k ≤ last → slice_index result.now k ≡ 2 ^ 32 - 1 }
+    ensures none { (k : ℕ) → last < k → k < 128 → slice_index result.now k ≡ 0 }
+{
+    &masks()[127 - last..255 - last]
+}
+
+#[inline(always)]
+fn masks() -> &'static [u32; 256]
+    ensures { result.now ≡ replicate 128 (2 ^ 32 - 1) ++ replicate 128 0 }
+{
+    &MASKS
+}
+
+const ALL: u32 = u32::MAX;
+
+static MASKS: [u32; 256] = [
+    ALL, ALL, ALL, ALL, ALL, ALL, ALL, ALL, ALL, ALL, ALL, ALL, ALL, ALL, ALL, ALL, ALL, ALL, ALL,
+    ALL, ALL, ALL, ALL, ALL, ALL, ALL, ALL, ALL, ALL, ALL, ALL, ALL, ALL, ALL, ALL, ALL, ALL, ALL,
+    ALL, ALL, ALL, ALL, ALL, ALL, ALL, ALL, ALL, ALL, ALL, ALL, ALL, ALL, ALL, ALL, ALL, ALL, ALL,
+    ALL, ALL, ALL, ALL, ALL, ALL, ALL, ALL, ALL, ALL, ALL, ALL, ALL, ALL, ALL, ALL, ALL, ALL, ALL,
+    ALL, ALL, ALL, ALL, ALL, ALL, ALL, ALL, ALL, ALL, ALL, ALL, ALL, ALL, ALL, ALL, ALL, ALL, ALL,
+    ALL, ALL, ALL, ALL, ALL, ALL, ALL, ALL, ALL, ALL, ALL, ALL, ALL, ALL, ALL, ALL, ALL, ALL, ALL,
+    ALL, ALL, ALL, ALL, ALL, ALL, ALL, ALL, ALL, ALL, ALL, ALL, ALL, ALL, 0, 0, 0, 0, 0, 0, 0, 0,
+    0, 0, 0, 0, 0, 0, 0, 0, 0, 0, 0, 0, 0, 0, 0, 0, 0, 0, 0, 0, 0, 0, 0, 0, 0, 0, 0, 0, 0, 0, 0, 0,
+    0, 0, 0, 0, 0, 0, 0, 0, 0, 0, 0, 0, 0, 0, 0, 0, 0, 0, 0, 0, 0, 0, 0, 0, 0, 0, 0, 0, 0, 0, 0, 0,
+    0, 0, 0, 0, 0, 0, 0, 0, 0, 0, 0, 0, 0, 0, 0, 0, 0, 0, 0, 0, 0, 0, 0, 0, 0, 0, 0, 0, 0, 0, 0, 0,
+    0, 0, 0, 0, 0, 0, 0, 0, 0, 0, 0, 0, 0, 0, 0, 0, 0, 0, 0, 0, 0, 0, 0, 0,
+];
 
 /// The index of the first position that is not below a count, or `None` if all are.
 fn first_beyond(positions: &[usize], count: usize) -> Option<usize>
