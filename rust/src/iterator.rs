@@ -1,9 +1,9 @@
 //! What the iterators over sets and columns have in common: they unpack the values part by part.
 
 /// Defines an iterator over the values of an opened type. A part has at most as many values as the number says, and from a position on at most as many
-/// as the function says.
+/// as the function says. The last function writes the values from a position on.
 macro_rules! iterator {
-    ($(#[$doc:meta])* $iter:ident of $opened:ident, $buffer:ident, $module:ident::$code:ident, $most:expr, $from:expr) => {
+    ($(#[$doc:meta])* $iter:ident of $opened:ident, $buffer:ident, $module:ident::$code:ident, $most:expr, $from:expr, $read:expr) => {
         $(#[$doc])*
         #[derive(Clone)]
         pub struct $iter<'a> {
@@ -18,8 +18,8 @@ macro_rules! iterator {
 
         impl<'a> $iter<'a> {
             #[inline]
-            pub(super) fn new(code: $module::$code<'a>) -> Self {
-                $iter { code, position: 0, end: code.len(), begin: 0, part: Room::new() }
+            pub(super) fn new(code: $module::$code<'a>, end: usize) -> Self {
+                $iter { code, position: 0, end, begin: 0, part: Room::new() }
             }
 
             /// The value at a position, if the part has it.
@@ -40,12 +40,7 @@ macro_rules! iterator {
             fn unpack(&mut self, begin: usize, len: usize) {
                 self.begin = begin;
                 let part = self.part.begin(len);
-                if len == self.code.len() {
-                    // REQUIRES: there is room for all values: it is as long as there are values.
-                    self.code.copy_to(part);
-                } else {
-                    self.code.copy_range(begin, part);
-                }
+                ($read)(&mut self.code, begin, part);
             }
         }
 

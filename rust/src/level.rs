@@ -110,6 +110,7 @@ macro_rules! references {
 references! { 'a:
     crate::bitpacking::BitPacker8x, v3::bitpacking::BitPacker8x;
     crate::bitpacking::Steps, v3::bitpacking::Steps;
+    crate::sets::Cursor<'a>, v3::sets::Cursor<'a>;
     crate::sets::IdSet<'a>, v3::sets::IdSet<'a>;
     v3::sets::Parts<'a>, crate::sets::Parts<'a>;
     crate::queries::Query<'a>, v3::queries::Query<'a>;

@@ -1,4 +1,4 @@
-//! A position among the ids of a set, which only moves forward.
+//! A position among the ids of a set.
 
 ghost use Rattle.std.specs.Prelude.{◌≡◌, ◌+◌, ◌-◌, ◌<◌, ◌≤◌, drop, length, max, min, slice_get, slice_index, take};
 ghost use Rattle.std.proofs.Props.{props};
@@ -10,7 +10,7 @@ use crate::form::Form;
 use crate::id_set::IdSet;
 use crate::place::ChunkPlace;
 
-/// A position among the ids of a set, which only moves forward. It remembers the slice that it reached, so that no call begins at the first one again.
+/// A position among the ids of a set. It remembers the slice that it reached, so that nothing after it is searched from the first one again.
 #[derive(Clone, Copy)]
 pub struct Cursor<'a> {
     pub(crate) set: IdSet<'a>,
@@ -43,14 +43,16 @@ impl<'a> Cursor<'a> {
         self.position
     }
 
-    /// Moves to a later position.
+    /// Moves to a position, which may be an earlier one: the next search begins at the first slice then.
     #[inline(always)]
-    pub(crate) fn skip_to(&mut self, position: usize)
-        requires later { self.old.position ≤ position }
-        requires within { position ≤ length (ids self.old.set) }
+    pub fn move_to(&mut self, position: usize)
+        requires { position ≤ length (ids self.old.set) }
         ensures set { self.new.set ≡ self.old.set }
         ensures position { self.new.position ≡ position }
     {
+        if position < self.position {
+            self.at = ChunkPlace::first();
+        }
         self.position = position;
     }
 
@@ -92,12 +94,14 @@ impl<'a> Cursor<'a> {
 
     /// Moves to the first id from the position on that is at least `target`, and returns it. It is `None`, and the position after the last id, exactly
     /// if there is none. Does not move if the id at the position is at least `target`.
-    #[inline(always)]
     pub fn seek(&mut self, target: u32) -> Option<u32>
         ensures set { self.new.set ≡ self.old.set }
         ensures position { self.new.position ≡ max self.old.position (rank target (ids self.old.set)) }
         ensures id { result ≡ slice_get (ids self.old.set) self.new.position }
     {
+        if self.position >= self.set.len() {
+            return None;
+        }
         let (at, position, id) = self.find(target);
         if position < self.position {
             return self.set.select(self.position);

@@ -89,6 +89,10 @@ impl<'a> Few<'a> {
         requires within { from + length out.old ≤ self.count }
         ensures { out.new ≡ take (length out.old) (drop from (ids_of_few self.entry)) }
     {
+        if out.len() == self.count {
+            self.unpack(out);
+            return;
+        }
         let mut ids = [0; MOST_FEW];
         let ids = &mut ids[..self.count];
         self.unpack(ids);
@@ -156,7 +160,8 @@ fn is_member(ids: &[u32], id: u32) -> bool
 }
 
 /// How many ids are below `id`.
-fn count_below(ids: &[u32], id: u32) -> usize
+#[inline(always)]
+pub(crate) fn count_below(ids: &[u32], id: u32) -> usize
     ensures { result ≡ rank id ids.now }
 {
     let mut count = 0;

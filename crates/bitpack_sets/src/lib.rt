@@ -14,6 +14,7 @@ mod opening;
 mod place;
 mod searching;
 mod set_builder;
+mod sought;
 mod varints;
 mod worked_sets;
 

@@ -21,7 +21,12 @@ iterator! {
     /// assert_eq!(values.len(), 499_999);
     /// ```
     // A part ends with its block.
-    Iter of Column, ColumnBuf, columns::Column, BLOCK_LEN, |position| BLOCK_LEN - position % BLOCK_LEN
+    Iter of Column, ColumnBuf, columns::Column, BLOCK_LEN, |position| BLOCK_LEN - position % BLOCK_LEN, read
+}
+
+/// Writes the values from a position on, as many as there is room for.
+fn read(column: &mut columns::Column<'_>, position: usize, values: &mut [u32]) {
+    column.copy_range(position, values);
 }
 
 impl Column {
@@ -33,7 +38,7 @@ impl Column {
     /// ```
     #[inline]
     pub fn iter(&self) -> Iter<'_> {
-        Iter::new(self.code())
+        Iter::new(self.code(), self.len())
     }
 }
 
@@ -44,6 +49,6 @@ impl<'a> IntoIterator for ColumnBuf<&'a [u8]> {
 
     #[inline]
     fn into_iter(self) -> Iter<'a> {
-        Iter::new(self.code)
+        Iter::new(self.code, self.code.len())
     }
 }

@@ -2,7 +2,8 @@
 
 use core::fmt;
 
-use super::{IdSet, Iter};
+use super::IdSet;
+use crate::sets;
 
 /// A position in increasing ids that only moves forward: of a set, a [`SetCursor`], or of a query, its [`QueryIds`](super::QueryIds).
 ///
@@ -81,9 +82,7 @@ pub(super) use cursor;
 /// ```
 #[derive(Clone)]
 pub struct SetCursor<'a> {
-    /// The ids after the one here.
-    later: Iter<'a>,
-    value: Option<u32>,
+    ids: sets::Ids<'a>,
 }
 
 impl SetCursor<'_> {
@@ -97,7 +96,7 @@ impl SetCursor<'_> {
     /// ```
     #[inline]
     pub fn value(&self) -> Option<u32> {
-        self.value
+        self.ids.value()
     }
 
     /// Returns the position here: how many ids are before this one. After the last it is the number of ids.
@@ -113,7 +112,7 @@ impl SetCursor<'_> {
     /// ```
     #[inline]
     pub fn position(&self) -> usize {
-        self.later.position() - usize::from(self.value.is_some())
+        self.ids.position()
     }
 
     /// Moves to the next id, and returns it. After the last id it does not move.
@@ -128,8 +127,7 @@ impl SetCursor<'_> {
     /// ```
     #[inline]
     pub fn advance(&mut self) -> Option<u32> {
-        self.value = self.later.next();
-        self.value
+        self.ids.advance()
     }
 
     /// Moves to the first id from here on that is at least `target`, or after the last if there is none, and returns it.
@@ -144,11 +142,7 @@ impl SetCursor<'_> {
     /// ```
     #[inline]
     pub fn seek(&mut self, target: u32) -> Option<u32> {
-        if self.value.is_some_and(|value| value < target) {
-            self.later.advance_to(target);
-            self.advance();
-        }
-        self.value
+        self.ids.seek(target)
     }
 
     /// Writes the ids from here on at the start of a slice, until it is full or the last is written. Moves after them, and returns their number. The
@@ -164,13 +158,7 @@ impl SetCursor<'_> {
     /// # Ok::<(), bitpacking::set::Error>(())
     /// ```
     pub fn fill(&mut self, ids: &mut [u32]) -> usize {
-        let (Some(id), Some((first, rest))) = (self.value, ids.split_first_mut()) else {
-            return 0;
-        };
-        *first = id;
-        let len = 1 + self.later.fill(rest);
-        self.advance();
-        len
+        self.ids.fill(ids)
     }
 }
 
@@ -178,7 +166,7 @@ cursor!(SetCursor<'_>);
 
 impl fmt::Debug for SetCursor<'_> {
     fn fmt(&self, f: &mut fmt::Formatter<'_>) -> fmt::Result {
-        f.debug_struct("SetCursor").field("position", &self.position()).field("value", &self.value).finish_non_exhaustive()
+        f.debug_struct("SetCursor").field("position", &self.position()).field("value", &self.value()).finish_non_exhaustive()
     }
 }
 
@@ -198,8 +186,6 @@ impl IdSet {
     /// # Ok::<(), bitpacking::set::Error>(())
     /// ```
     pub fn cursor(&self) -> SetCursor<'_> {
-        let mut later = self.iter();
-        let value = later.next();
-        SetCursor { later, value }
+        SetCursor { ids: self.code().iter() }
     }
 }

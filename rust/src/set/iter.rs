@@ -30,25 +30,19 @@ iterator! {
     /// assert_eq!((ids.len(), ids.next()), (299_999, Some(700_000)));
     /// # Ok::<(), bitpacking::set::Error>(())
     /// ```
-    Iter of IdSet, IdSetBuf, sets::IdSet, MOST, |_| MOST
+    Iter of IdSet, IdSetBuf, sets::Cursor, MOST, |_| MOST, read
 }
 
-impl Iter<'_> {
-    /// The position of the next id.
-    pub(super) fn position(&self) -> usize {
-        self.position
-    }
+/// Writes the ids from a position on, as many as there is room for.
+fn read(cursor: &mut sets::Cursor<'_>, position: usize, ids: &mut [u32]) {
+    // REQUIRES: the position is one of the set.
+    cursor.move_to(position);
+    cursor.fill(ids);
+}
 
-    /// Writes the next ids at the start of a slice, as many as it has room for, and returns their number.
-    pub(super) fn fill(&mut self, ids: &mut [u32]) -> usize {
-        let part = self.unpacked();
-        let len = part.len().min(ids.len());
-        ids[..len].copy_from_slice(&part[..len]);
-        self.position += len;
-        let room = ids.len().min(len + self.len());
-        let more = self.code.copy_range(self.position, &mut ids[len..room]);
-        self.position += more;
-        len + more
+impl<'a> Iter<'a> {
+    fn of(code: sets::IdSet<'a>) -> Self {
+        Iter::new(code.cursor(), code.len())
     }
 
     /// Skips the ids that are below `target`, mostly without unpacking them.
@@ -67,7 +61,12 @@ impl Iter<'_> {
         if ids.last().is_some_and(|last| target <= *last) {
             self.position += ids.partition_point(|id| *id < target);
         } else {
-            self.position = self.code.rank(target).clamp(self.position, self.end);
+            // Most often the cursor is after these.
+            let after = self.position + ids.len();
+            // REQUIRES: the position is one of the set: no id after the last is unpacked.
+            self.code.move_to(after);
+            self.code.seek(target);
+            self.position = self.code.position().min(self.end);
         }
     }
 }
@@ -149,7 +148,7 @@ impl<B: StableBytes> IntoIterator for IdSetBuf<B> {
 
     fn into_iter(self) -> IntoIter<B> {
         // The iterator is not there longer than the bytes, whose address is the same after they move, as `StableBytes` promises.
-        IntoIter { ids: Iter::new(self.opened.code), _bytes: self.bytes }
+        IntoIter { ids: Iter::of(self.opened.code), _bytes: self.bytes }
     }
 }
 
@@ -168,7 +167,7 @@ impl IdSet {
     /// ```
     #[inline]
     pub fn iter(&self) -> Iter<'_> {
-        Iter::new(self.code())
+        Iter::of(self.code())
     }
 
     /// Returns an iterator over the ids within limits, in increasing order. There are none if the lower limit is above the upper one.

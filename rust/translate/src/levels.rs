@@ -24,11 +24,14 @@ pub const SHARED: [(File, &str); 9] = [
 ];
 
 /// Types that each copy has, and whose values cross from one to the other: both have the layout of C.
-pub const CROSSING: [(File, &str); 11] = [
+pub const CROSSING: [(File, &str); 14] = [
     (("bitpacking", "bitpacker8x.rt"), "BitPacker8x"),
     (("bitpacking", "instruction_set.rt"), "InstructionSet"),
     (("bitpacking", "memory.rt"), "Steps"),
+    (("slices", "chunk/place.rt"), "Place"),
+    (("sets", "cursor.rt"), "Cursor"),
     (("sets", "id_set.rt"), "IdSet"),
+    (("sets", "place.rt"), "ChunkPlace"),
     (("sets", "opening.rt"), "Parts"),
     (("queries", "query.rt"), "Query"),
     (("queries", "query/walking.rt"), "Walk"),
@@ -51,7 +54,7 @@ const fn entries(file: File, of: &'static str, functions: &'static [&'static str
 
 /// What the functions for Rust and for C call, if it reads or writes more than a few bytes. Blocks of 128 and of 32 values gain less than the choice
 /// costs, and so does one value of a column.
-pub const ENTRIES: [Entries; 26] = [
+pub const ENTRIES: [Entries; 27] = [
     entries(("bitpacking", "bitpacker8x.rt"), "BitPacker8x", &["pack_unmeasured", "unpack_counted", "width_counted"]),
     entries(("sets", "opening.rt"), "opening", &["test_encoding"]),
     entries(("queries", "combining.rt"), "combining", &["combine_to", "combine_count", "is_disjoint", "is_subset"]),
@@ -61,6 +64,7 @@ pub const ENTRIES: [Entries; 26] = [
     entries(("sets", "encoding.rt"), "encoding", &["encode", "encode_to", "encoded_len"]),
     entries(("sets", "appending.rt"), "appending", &["append", "append_to"]),
     entries(("sets", "id_set.rt"), "IdSet", &["contains", "rank", "select", "seek", "append_to", "copy_to", "copy_range"]),
+    entries(("sets", "cursor.rt"), "Cursor", &["fill", "seek"]),
     entries(("queries", "query.rt"), "Query", &["next_ids"]),
     entries(("queries", "query.rt"), "query", &["query_to"]),
     entries(("queries", "query/packing.rt"), "query::packing", &["query_set_to"]),

@@ -2,6 +2,7 @@
 pub mod ChunkReads
 pub mod HalfLaws
 pub mod HeldLaws
+pub mod IdsLaws
 pub mod JoinReads
 pub mod KeyLaws
 pub mod PositionLaws
