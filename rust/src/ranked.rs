@@ -33,6 +33,9 @@ use crate::column::Column;
 use crate::ranking;
 use crate::set::{IdSet, intersect_all};
 
+/// How many positions a block has.
+const BLOCK_LEN: usize = 128;
+
 /// Why a set, a column and a table are not a word, or documents are not ranked.
 #[derive(Clone, Copy, Debug, PartialEq, Eq)]
 #[non_exhaustive]
@@ -64,6 +67,7 @@ impl core::error::Error for Error {}
 pub struct Term<'a> {
     documents: &'a IdSet,
     code: ranking::Term<'a>,
+    bounded: Option<&'a BoundedTerm<'a>>,
 }
 
 impl<'a> Term<'a> {
@@ -79,7 +83,53 @@ impl<'a> Term<'a> {
         }
         let parts = ranking::Parts::new(table).ok_or(Error::NoTable)?;
         let code = ranking::Term::new(documents.code(), counts.code(), parts).map_err(|_| Error::OtherLength)?;
-        Ok(Term { documents, code })
+        Ok(Term { documents, code, bounded: None })
+    }
+
+    /// The bounds for these classes, or none.
+    fn bounds_for(&self, classes: &[u8]) -> ranking::BlockBounds<'a> {
+        // Two slices of the same memory have the same bytes.
+        let bounded = self.bounded.filter(|it| core::ptr::eq(it.classes, classes));
+        ranking::BlockBounds { parts: bounded.map_or(&[], |it| &it.bounds) }
+    }
+}
+
+/// A word of many queries, with the greatest part of each block of 128 documents that have it.
+///
+/// It takes 4 bytes for a block, and making it takes as long as a few queries. Then [`best`] reads few blocks of a common word: a query of this word
+/// alone is several times as fast, and one by OR is faster too.
+///
+/// ```
+/// use bitpacking::column::{ColumnBuf, Kind};
+/// use bitpacking::ranked::{BoundedTerm, CLASSES, Term, best};
+/// use bitpacking::set::IdSetBuf;
+///
+/// let table: Vec<u32> = (0..2 * CLASSES as u32).map(|k| k / 256 * (300 - k % 256)).collect();
+/// let (documents, counts) = (IdSetBuf::pack(&[1, 4, 7])?, ColumnBuf::pack(Kind::Plain, &[1, 1, 1])?);
+/// let classes = [0, 9, 0, 0, 5, 0, 0, 7];
+/// let word = BoundedTerm::new(Term::new(&documents, &counts, &table)?, &classes);
+/// let found = best(&[word.term()], &classes, 1, 2);
+/// assert_eq!(found.iter().map(|it| (it.id, it.score)).collect::<Vec<_>>(), [(4, 295), (7, 293)]);
+/// # Ok::<(), Box<dyn std::error::Error>>(())
+/// ```
+#[derive(Clone)]
+pub struct BoundedTerm<'a> {
+    term: Term<'a>,
+    classes: &'a [u8],
+    bounds: Vec<u32>,
+}
+
+impl<'a> BoundedTerm<'a> {
+    /// Reads all of a word, and makes the bounds for documents of these classes.
+    pub fn new(term: Term<'a>, classes: &'a [u8]) -> Self {
+        let mut bounds = vec![0; term.documents.len().div_ceil(BLOCK_LEN)];
+        ranking::bound_blocks(&term.code, classes, &mut bounds);
+        BoundedTerm { term, classes, bounds }
+    }
+
+    /// The word. [`best`] uses the bounds if it is given the slice of classes that they were made for, and not a copy of it.
+    pub fn term(&self) -> Term<'_> {
+        Term { bounded: Some(self), ..self.term }
     }
 }
 
@@ -102,8 +152,8 @@ pub fn best(terms: &[Term<'_>], classes: &[u8], at_least: usize, most: usize) ->
     let documents = terms.iter().map(|term| term.documents.len()).fold(0, usize::saturating_add);
     let mut found = vec![Scored { score: 0, id: 0 }; most.min(documents)];
     let mut walks = vec![ranking::Walk::new(); terms.len()];
-    // REQUIRES: at most 2^31 words, and a walk for each.
-    let len = ranking::best(&codes(&terms), classes, at_least, &mut walks, &mut found);
+    // REQUIRES: at most 2^31 words, and a walk for each. The bounds were made of the words and these classes.
+    let len = ranking::best_bounded(&codes(&terms), &bounds(&terms, classes), classes, at_least, &mut walks, &mut found);
     found.truncate(len);
     found
 }
@@ -149,6 +199,14 @@ fn rarest_first<'a>(terms: &[Term<'a>]) -> Vec<Term<'a>> {
     let mut terms = terms.to_vec();
     terms.sort_by_key(|term| term.documents.len());
     terms
+}
+
+/// The bounds of the words for these classes. Allocates nothing if no word has bounds.
+fn bounds<'a>(terms: &[Term<'a>], classes: &[u8]) -> Vec<ranking::BlockBounds<'a>> {
+    if terms.iter().all(|term| term.bounded.is_none()) {
+        return Vec::new();
+    }
+    terms.iter().map(|term| term.bounds_for(classes)).collect()
 }
 
 fn codes<'a>(terms: &[Term<'a>]) -> Vec<ranking::Term<'a>> {

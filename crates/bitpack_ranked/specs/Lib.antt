@@ -1,4 +1,5 @@
 -- The definitions of this crate.
+pub mod Bounds
 pub mod inner
 pub mod Ranked
 pub mod Scores

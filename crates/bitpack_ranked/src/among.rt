@@ -30,7 +30,7 @@ pub fn best_among<T: AsTerm>(
     ensures fault { MatchOption (first_fall 0 documents.now) (IsOk result) (λ position. result ≡ Err position) }
     ensures len { IfOk result (λ len. len ≤ length found.old) }
     // claim: ranked/4 writes the best of given increasing documents, as a scan does; one with none of the words has score 0; refuses the
-    //   first that is out of order
+    //   first out of order
     ensures best { IfOk result (λ len. AreBest (IsAmong documents.now (map T.its_word terms.now) classes.now) (length found.old) (take len found.new)) }
     ensures unchanged { OnErr result (found.new ≡ found.old) }
 {

@@ -4,6 +4,8 @@
 mod adding;
 mod among;
 mod as_term;
+mod block_bounds;
+mod bounding;
 mod bounds;
 mod candidates;
 mod found;
@@ -18,8 +20,10 @@ mod worked_scores;
 
 pub use among::best_among;
 pub use as_term::AsTerm;
+pub use block_bounds::BlockBounds;
+pub use bounding::bound_blocks;
 pub use found::Scored;
 pub use parts::{CLASSES, Parts};
-pub use ranking::best;
+pub use ranking::{best, best_bounded};
 pub use term::{Term, TermError};
 pub use walk::Walk;

@@ -2,16 +2,19 @@
 
 ghost use Rattle.std.specs.Prelude.{◌≡◌, ℕ, ◌+◌, ◌-◌, ◌*◌, ◌^◌, ◌<◌, ◌≤◌, length, map, max, slice_index, take};
 ghost use Rattle.std.specs.List.{count_by};
+ghost use Rattle.bitpack_ranked.specs.Bounds.{AreBounds, HaveBounds};
 ghost use Rattle.bitpack_ranked.specs.Ranked.{AreBest, IsHit, has_word};
 ghost use Rattle.bitpack_ranked.specs.Scores.{part_at};
 ghost use Rattle.bitpack_ranked.specs.inner.Candidates.{AreLeft};
 ghost use Rattle.bitpack_ranked.specs.inner.Walks.{IsLow, IsPastIn, IsUnpacked, most_rest};
 
 use crate::as_term::AsTerm;
+use crate::block_bounds::BlockBounds;
+use crate::bounding::{bound_of, bounds_at};
 use crate::candidates::Candidates;
 use crate::found::{Scored, is_full};
 use crate::others::count_others;
-use crate::walk::{BLOCK, Walk, most_of};
+use crate::walk::{BLOCK, Walk};
 use crate::words::rest_of;
 
 /// Writes the best of the documents that have at least `at_least` of the words, the best of them first, as many as there is room for. Returns
@@ -38,6 +41,28 @@ pub fn best<T: AsTerm>(
     // claim: ranked/1 writes the best documents with enough words, as a scan does, ties by lower id; at most 2^31 words
     ensures best { AreBest (IsHit (map T.its_word terms.now) classes.now (max 1 at_least)) (length found.old) (take result found.new) }
 {
+    best_bounded(terms, &[], classes, at_least, walks, found)
+}
+
+/// As [`best`], with bounds that [`bound_blocks`](crate::bound_blocks) wrote for the same classes: the first are of the first word, and so on. A
+/// word after the last bounds has none, as one with empty bounds.
+///
+/// They skip most blocks of a common word that is the only one.
+pub fn best_bounded<T: AsTerm>(
+    terms: &[T],
+    bounds: &[BlockBounds],
+    classes: &[u8],
+    at_least: usize,
+    walks: &mut [Walk],
+    found: &mut [Scored],
+) -> usize
+    requires few { length terms.now ≤ 2 ^ 31 }
+    requires room { length terms.now ≤ length walks.old }
+    requires bounds { HaveBounds classes.now (map T.its_word terms.now) (map (λ its. its.parts.now) bounds.now) }
+    ensures len { result ≤ length found.old }
+    // claim: ranked/6 as `ranked/1`, with such bounds
+    ensures best { AreBest (IsHit (map T.its_word terms.now) classes.now (max 1 at_least)) (length found.old) (take result found.new) }
+{
     clear(walks);
     let at_least = at_least.max(1);
     let mut len = 0;
@@ -47,6 +72,7 @@ pub fn best<T: AsTerm>(
             before: &terms[..index],
             term: &terms[index],
             after: &terms[index + 1..],
+            bounds: bounds_at(bounds, index),
             classes,
             at_least,
         };
@@ -68,6 +94,7 @@ struct Turn<'a, T: AsTerm> {
     before: &'a [T],
     term: &'a T,
     after: &'a [T],
+    bounds: BlockBounds<'a>,
     classes: &'a [u8],
     at_least: usize,
     ghost few: { length after.now ≤ 2 ^ 31 },
@@ -78,6 +105,7 @@ struct Turn<'a, T: AsTerm> {
 impl<'a, T: AsTerm> Turn<'a, T> {
     /// Puts the documents of the word among the best, block by block.
     fn pass(&self, walk: &mut Walk, found: &mut [Scored], len: usize) -> usize
+        requires bounds { AreBounds self.now.classes.now (T.its_word self.now.term.now) self.now.bounds.parts.now }
         requires len { len ≤ length found.old }
         requires best { AreBest (IsPastIn (map T.its_word self.now.before.now) (T.its_word self.now.term.now) (map T.its_word self.now.after.now)
             self.now.classes.now self.now.at_least 0) (length found.old) (take len found.old) }
@@ -103,6 +131,7 @@ impl<'a, T: AsTerm> Turn<'a, T> {
         found: &mut [Scored],
         len: usize,
     ) -> usize
+        requires bounds { AreBounds self.now.classes.now (T.its_word self.now.term.now) self.now.bounds.parts.now }
         requires within { 128 * block < length (T.its_word self.now.term.now).ids }
         requires low { IsLow walk.old.low (T.its_word self.now.term.now) block }
         requires rest { rest ≡ most_rest (map T.its_word self.now.after.now) }
@@ -116,7 +145,7 @@ impl<'a, T: AsTerm> Turn<'a, T> {
             self.now.classes.now self.now.at_least (128 * (block + 1))) (length found.old) (take result found.new) }
     {
         let id = walk.low();
-        let score = most_of(self.term, block) as u64 + rest;
+        let score = bound_of(self.term, self.bounds, block) as u64 + rest;
         if is_full(found, len, Scored { score, id }) {
             return len;
         }

@@ -3,7 +3,7 @@
 use std::vec::Vec;
 
 use crate::column::{ColumnBuf, Kind};
-use crate::ranked::{CLASSES, Error, Term, best, best_among};
+use crate::ranked::{BoundedTerm, CLASSES, Error, Term, best, best_among};
 use crate::ranking;
 use crate::set::IdSetBuf;
 
@@ -41,7 +41,11 @@ impl Word {
 fn found(words: &[Word], classes: &[u8], at_least: usize, most: usize) -> Vec<(u32, u64)> {
     let table = table();
     let terms: Vec<_> = words.iter().map(|word| word.term(&table)).collect();
-    best(&terms, classes, at_least, most).iter().map(|it| (it.id, it.score)).collect()
+    let found = best(&terms, classes, at_least, most);
+    let bounded: Vec<_> = terms.iter().map(|term| BoundedTerm::new(*term, classes)).collect();
+    let terms: Vec<_> = bounded.iter().map(BoundedTerm::term).collect();
+    assert!(best(&terms, classes, at_least, most) == found);
+    found.iter().map(|it| (it.id, it.score)).collect()
 }
 
 fn among(documents: &[u32], words: &[Word], classes: &[u8], most: usize) -> Vec<(u32, u64)> {
@@ -132,6 +136,42 @@ fn same_as_a_scan() {
             assert!(among(&given, &words, &classes, most) == all[..most.min(all.len())], "round {round}");
         }
     }
+}
+
+/// Each eighth document has the word four times and class 255, and the others once and class 0, which is worth more. The bound of each block is 300.
+#[test]
+fn bounds_of_documents() {
+    let (ids, counts): (Vec<u32>, Vec<u32>) = (0..1024).map(|id| (id, if id % 8 == 0 { 4 } else { 1 })).unzip();
+    let classes: Vec<u8> = ids.iter().map(|id| if id % 8 == 0 { 255 } else { 0 }).collect();
+    let word = Word::new(&ids, &counts);
+    let table = table();
+    let parts = ranking::Parts::new(&table).unwrap();
+    let terms = [ranking::Term::new(word.documents.code(), word.column.code(), parts).unwrap()];
+    let mut bounds = [7; 10];
+    ranking::bound_blocks(&terms[0], &classes, &mut bounds);
+    assert_eq!(bounds, [300, 300, 300, 300, 300, 300, 300, 300, 0, 0]);
+    let mut room = [ranking::Scored { score: 0, id: 0 }; 10];
+    for (count, unpacked) in [(0, 8), (1, 8), (4, 5), (8, 1), (10, 1)] {
+        let mut walks = [ranking::Walk::new(); 1];
+        let bounds = [ranking::BlockBounds { parts: &bounds[..count] }];
+        assert_eq!(ranking::best_bounded(&terms, &bounds, &classes, 1, &mut walks, &mut room), 10);
+        assert_eq!((walks[0].unpacked(), room[9].id, room[9].score), (unpacked, 11, 300));
+    }
+}
+
+/// Bounds for other classes are not used.
+#[test]
+fn bounds_for_other_classes() {
+    let ids: Vec<u32> = (0..1024).collect();
+    let word = Word::new(&ids, &[1; 1024]);
+    let table = table();
+    let (first, later): (Vec<u8>, Vec<u8>) = ids.iter().map(|id| if *id < 512 { (0, 200) } else { (200, 0) }).unzip();
+    let bounded = BoundedTerm::new(word.term(&table), &first);
+    for classes in [&later, &later.clone()] {
+        let found: Vec<_> = best(&[bounded.term()], classes, 1, 2).iter().map(|it| (it.id, it.score)).collect();
+        assert_eq!(found, [(512, 300), (513, 300)]);
+    }
+    assert_eq!(best(&[bounded.term()], &first.clone(), 1, 1)[0].id, 0);
 }
 
 /// Of 1,024 documents the first 10 have the word 4 times, and the others once: once ten are found, the other seven blocks of counts stay packed,

@@ -11,7 +11,7 @@ pub const COPIED: [&str; 9] = ["register", "bitpacking", "groups", "slices", "se
 pub const FEATURES: &str = "avx2,bmi1,bmi2,lzcnt,popcnt";
 
 /// Types that both copies share. In the second copy the file of such a type re-exports the type of the first copy.
-pub const SHARED: [(File, &str); 9] = [
+pub const SHARED: [(File, &str); 10] = [
     (("bitpacking", "kind.rt"), "Kind"),
     (("groups", "group_error.rt"), "GroupError"),
     (("slices", "operation.rt"), "Operation"),
@@ -21,6 +21,7 @@ pub const SHARED: [(File, &str); 9] = [
     (("queries", "as_step.rt"), "AsStep"),
     (("columns", "column_error.rt"), "ColumnError"),
     (("columns", "column_kind.rt"), "ColumnKind"),
+    (("ranking", "block_bounds.rt"), "BlockBounds"),
 ];
 
 /// Types that each copy has, and whose values cross from one to the other: both have the layout of C.
@@ -80,7 +81,8 @@ pub const ENTRIES: [Entries; 27] = [
     entries(("columns", "column/search.rt"), "Column", &["seek"]),
     entries(("columns", "column/getting.rt"), "Column", &["gather"]),
     entries(("columns", "reads/blocks.rt"), "Column", &["read_block"]),
-    entries(("ranking", "ranking.rt"), "ranking", &["best"]),
+    entries(("ranking", "ranking.rt"), "ranking", &["best_bounded"]),
+    entries(("ranking", "bounding.rt"), "bounding", &["bound_blocks"]),
     entries(("ranking", "among.rt"), "among", &["best_among"]),
 ];
 

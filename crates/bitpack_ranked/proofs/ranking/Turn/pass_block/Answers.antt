@@ -11,13 +11,13 @@ returns-then-is_full-clause-best g c =
     let word = f turn.term.now in
     let classes = turn.classes.now in
     past_full (map f turn.before.now) word (map f turn.after.now) (g.met.T.AsTerm.is_word turn.term.now) classes turn.at_least (length c.args.found.now)
-    (take c.args.len c.args.found.now) (128 * c.args.block) (128 * (c.args.block + 1)) (record { score = c.most_of.result + c.args.rest; id = c.low-id.result })
+    (take c.args.len c.args.found.now) (128 * c.args.block) (128 * (c.args.block + 1)) (record { score = c.bound_of.result + c.args.rest; id = c.low-id.result })
     (omega arith)
     (λ i from upto within. (
       omega (arith, c.requires.low i from within, c.low-id.ensures),
       omega (
         arith,
-        c.most_of.ensures i (get_or classes (get_or word.ids i 0) 0) from upto within,
+        c.bound_of.ensures classes c.requires.bounds i from upto within,
         rest_bounds f g.met.T.AsTerm.is_word turn.after.now classes (get_or word.ids i 0),
         c.requires.rest,
       ),

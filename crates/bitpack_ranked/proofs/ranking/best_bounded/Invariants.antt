@@ -2,7 +2,7 @@
 use Rattle.std.proofs.Common.{◌≤◌, length, map, take}
 use Rattle.bitpack_ranked.specs.Ranked.{AreBest}
 use Rattle.bitpack_ranked.specs.inner.Walks.{IsPast}
-use Rattle.bitpack_ranked.proofs.ranking.best.Given as goal
+use Rattle.bitpack_ranked.proofs.ranking.best_bounded.Given as goal
 
 abbrev pub invariant-loop-index : goal.invariant-loop-index
 invariant-loop-index g l =
