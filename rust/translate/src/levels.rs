@@ -51,7 +51,7 @@ const fn entries(file: File, of: &'static str, functions: &'static [&'static str
 
 /// What the functions for Rust and for C call, if it reads or writes more than a few bytes. Blocks of 128 and of 32 values gain less than the choice
 /// costs, and so does one value of a column.
-pub const ENTRIES: [Entries; 26] = [
+pub const ENTRIES: [Entries; 27] = [
     entries(("bitpacking", "bitpacker8x.rt"), "BitPacker8x", &["pack_unmeasured", "unpack_counted", "width_counted"]),
     entries(("sets", "opening.rt"), "opening", &["test_encoding"]),
     entries(("queries", "combining.rt"), "combining", &["combine_to", "combine_count", "is_disjoint", "is_subset"]),
@@ -65,6 +65,7 @@ pub const ENTRIES: [Entries; 26] = [
     entries(("queries", "query.rt"), "query", &["query_to"]),
     entries(("queries", "query/packing.rt"), "query::packing", &["query_set_to"]),
     entries(("roaring", "reading.rt"), "reading", &["fill_from_roaring"]),
+    entries(("roaring", "writing.rt"), "writing", &["roaring_len"]),
     entries(("sets", "encoding/order.rt"), "encoding::order", &["first_unsorted"]),
     entries(("columns", "opening.rt"), "opening", &["test_column"]),
     entries(("columns", "encoding.rt"), "encoding", &["encode", "encode_to", "encoded_len"]),
