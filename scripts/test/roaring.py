@@ -1,7 +1,8 @@
 #!/usr/bin/env python3
 """Reads what CRoaring writes, and damaged texts of it, by `IdSetBuf::from_roaring` and by the decoders of vectors/, and compares these: random sets, as
 CRoaring makes and combines them, optimized, shrunk or neither. What the model of vectors/ writes has to be what CRoaring writes of the same ids, and
-`roaring_len` how many bytes. It needs libroaring.so.0 (libroaring0 of Debian) and cargo, and is left out without them. `--sets` and a number is how many sets there are, else 300.
+`roaring_len` how many bytes. It needs libroaring.so.0 (libroaring0 of Debian) and cargo, and is left out without them. `--sets` and a number is how
+many sets there are, else 300.
 The last line is 'N passed, M failed'.
 """
 import ctypes
