@@ -1,4 +1,5 @@
-//! Reads bitmaps in Roaring's portable format, a line of hexadecimal digits for each. Writes the bytes of the set of each, or the number of its fault.
+//! Reads bitmaps in Roaring's portable format, a line of hexadecimal digits for each. Writes the bytes of the set of each and the length of its bitmap, or
+//! the number of its fault.
 
 use std::io::{self, BufRead, BufWriter, Write};
 
@@ -15,7 +16,7 @@ fn main() -> io::Result<()> {
         match IdSetBuf::from_roaring(&bytes) {
             Ok(set) => {
                 set.as_bytes().iter().try_for_each(|byte| write!(out, "{byte:02x}"))?;
-                writeln!(out)?;
+                writeln!(out, " {}", set.roaring_len())?;
             }
             Err(fault) => writeln!(out, "fault {}", fault.number())?,
         }

@@ -1,7 +1,8 @@
 #!/usr/bin/env python3
 """Reads what CRoaring writes, and damaged texts of it, by `IdSetBuf::from_roaring` and by the decoders of vectors/, and compares these: random sets, as
-CRoaring makes and combines them, optimized, shrunk or neither. What the model of vectors/ writes has to be what CRoaring writes of the same ids. It
-needs libroaring.so.0 (libroaring0 of Debian) and cargo, and is left out without them. `--sets` and a number is how many sets there are, else 300.
+CRoaring makes and combines them, optimized, shrunk or neither. What the model of vectors/ writes has to be what CRoaring writes of the same ids, and
+`roaring_len` how many bytes. It needs libroaring.so.0 (libroaring0 of Debian) and cargo, and is left out without them. `--sets` and a number is how
+many sets there are, else 300.
 The last line is 'N passed, M failed'.
 """
 import ctypes
@@ -67,6 +68,14 @@ class Roaring:
         found = ctypes.create_string_buffer(self.call("portable_size_in_bytes", bitmap) + 1)
         size = self.call("portable_serialize", bitmap, found)
         return found.raw[:size]
+
+    def optimized_len(self, ids):
+        """How many bytes are written of ids after `run_optimize`."""
+        made = self.of(ids)
+        self.call("run_optimize", made)
+        size = self.call("portable_size_in_bytes", made)
+        self.call("free", made)
+        return size
 
     def numbers(self):
         """The numbers of a container: few, about 4,096, runs, many, the last ones, one run, or in steps."""
@@ -147,7 +156,13 @@ def checks(count):
         yield "how many bitmaps are read", None if len(found) == len(given) else len(found)
         for (text, ids), line in zip(given, found):
             right = answer_of(names["decode_roaring"], number_of, text)
-            read = line if line.startswith("fault") else answer_of(names["decode_set"], number_of, bytes.fromhex(line))
+            if line.startswith("fault"):
+                read = line
+            else:
+                found_bytes, found_len = line.split()
+                read = answer_of(names["decode_set"], number_of, bytes.fromhex(found_bytes))
+                size = roaring.optimized_len(read)
+                yield f"length of bitmap {text[:40].hex()}", None if int(found_len) == size else f"{found_len}, and not {size}"
             yield f"bitmap {text[:40].hex()} of {len(text)} bytes", None if read == right and ids in (
                 None,
                 right,

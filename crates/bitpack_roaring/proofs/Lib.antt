@@ -1,12 +1,16 @@
 -- The lemmas of this crate.
 mod BitLaws
 mod BodyLaws
+mod ChangeLaws
 mod ChunkLaws
 mod ContainerLaws
 mod FallSteps
 mod FaultSteps
 mod GatherSteps
 mod HeadLaws
+mod MeasureSteps
+mod PartLaws
 mod ReadSteps
+mod RunCounts
 mod RunSteps
 mod WorkedProofs

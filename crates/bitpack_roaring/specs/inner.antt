@@ -1,2 +1,4 @@
 -- What serves inner contracts.
 pub mod Heads
+pub mod Sizes
+pub mod Walks

@@ -19,10 +19,10 @@ use bitpack_groups::read_integer;
 use bitpack_slices::SetError;
 
 /// The first two bytes, if some containers are runs.
-const WITH_RUNS: u32 = 12347;
+pub(crate) const WITH_RUNS: u32 = 12347;
 
 /// The first four bytes, if no container is runs.
-const WITHOUT_RUNS: u32 = 12346;
+pub(crate) const WITHOUT_RUNS: u32 = 12346;
 
 /// The most containers.
 const MOST_CONTAINERS: usize = 1 << 16;
@@ -34,7 +34,7 @@ const LEAST_OFFSETS: usize = 4;
 pub(crate) const LONGEST_ARRAY: usize = 4096;
 
 /// The bytes of bits.
-const BITS_LEN: usize = 8192;
+pub(crate) const BITS_LEN: usize = 8192;
 
 /// What the head of a bitmap says. It was tested.
 #[derive(Clone, Copy)]
@@ -114,7 +114,7 @@ fn test_cookie(runs: bool, bytes: &[u8]) -> Result<usize, SetError>
 }
 
 /// The start of the keys and counts.
-fn keys_start(runs: bool, containers: usize) -> usize
+pub(crate) fn keys_start(runs: bool, containers: usize) -> usize
     requires { containers ≤ 65536 }
     ensures { result ≡ (if runs then 4 + (containers + 7) / 8 else 8) }
 {
@@ -122,7 +122,7 @@ fn keys_start(runs: bool, containers: usize) -> usize
 }
 
 /// Whether there are offsets.
-fn has_offsets(runs: bool, containers: usize) -> bool
+pub(crate) fn has_offsets(runs: bool, containers: usize) -> bool
     ensures { result ≡ (if runs then nat_le 4 containers else true) }
 {
     if runs {
@@ -133,7 +133,7 @@ fn has_offsets(runs: bool, containers: usize) -> bool
 }
 
 /// How many bytes a key, a count and an offset have, if there are offsets.
-fn entry_len(offsets: bool) -> usize
+pub(crate) fn entry_len(offsets: bool) -> usize
     ensures { result ≡ (if offsets then 8 else 4) }
 {
     if offsets { 8 } else { 4 }

@@ -2,13 +2,19 @@
 #![tactic(auto)]
 
 mod bits;
+mod changes;
 mod container;
 mod head;
+mod measured;
+mod measuring;
+mod parts;
 mod reading;
 mod runs;
 mod testing;
 mod unpacking;
 mod worked_bitmaps;
+mod writing;
 
 pub use reading::{fill_from_roaring, roaring_room, set_from_roaring};
 pub use testing::test_roaring;
+pub use writing::roaring_len;

@@ -1,9 +1,9 @@
-//! Bitmaps in Roaring's portable format, as sets.
+//! Bitmaps in Roaring's portable format, as sets; and how long the bitmap of a set is.
 
 use alloc::vec::Vec;
 
 use super::packing::packed;
-use super::{Error, IdSetBuf};
+use super::{Error, IdSet, IdSetBuf};
 use crate::growing::Growing;
 use crate::roaring;
 
@@ -40,5 +40,22 @@ impl IdSetBuf {
             set.truncate(len);
             Ok(())
         })
+    }
+}
+
+impl IdSet {
+    /// Returns the length in bytes of the ids as a bitmap in Roaring's portable format: as many as `roaring_bitmap_portable_serialize` of CRoaring
+    /// writes after `roaring_bitmap_run_optimize`. Allocates nothing.
+    ///
+    /// ```
+    /// use bitpacking::set::IdSetBuf;
+    ///
+    /// // A run takes 15 bytes.
+    /// assert_eq!(IdSetBuf::from_iter(0..10).roaring_len(), 15);
+    /// assert_eq!(IdSetBuf::pack(&[3, 7, 65536])?.roaring_len(), 30);
+    /// # Ok::<(), bitpacking::set::Error>(())
+    /// ```
+    pub fn roaring_len(&self) -> usize {
+        roaring::roaring_len(&self.code())
     }
 }

@@ -19,6 +19,37 @@ fn bitmaps() {
     }
 }
 
+/// The bytes of docs/ROARING.md, and containers around the borders of their forms, worked from the rules there.
+#[test]
+fn lengths() {
+    let pairs = |count: u32| (0..count).flat_map(|k| [3 * k, 3 * k + 1]).collect::<Vec<u32>>();
+    let triples = |count: u32| (0..count).flat_map(|k| [4 * k, 4 * k + 1, 4 * k + 2]).collect::<Vec<u32>>();
+    for (ids, len) in [
+        (vec![], 8),
+        (vec![5], 18),
+        (vec![3, 7, 65536], 30),
+        ((0..10).collect(), 15),
+        ((0..10).chain([131_077]).collect(), 21),
+        ((65528..65536).collect(), 15),
+        (vec![1, 2, 5, 6, 7], 19),
+        ((0..4).flat_map(|key| [4, 5, 6, 7].map(|low| key << 16 | low)).collect(), 61),
+        // Two numbers for each run take as many bytes as an array with a count: an array without it is shorter.
+        (pairs(100), 16 + 400),
+        (triples(100), 9 + 2 + 400),
+        // 4,096 numbers are an array, and 4,097 are bits.
+        ((0..4096).map(|k| 2 * k).collect(), 16 + 8192),
+        ((0..4097).map(|k| 2 * k).collect(), 16 + 8192),
+        // 2,047 runs take 8,190 bytes, and 2,048 as many as more than bits.
+        (triples(2047), 9 + 8190),
+        (triples(2048), 16 + 8192),
+        ((0..65536).collect(), 15),
+        ((0..1 << 20).collect(), 4 + 2 + 16 * 14),
+        ((0..65536).map(|key| key << 16).collect(), 8 + 65536 * 10),
+    ] {
+        assert_eq!(IdSetBuf::pack(&ids).unwrap().roaring_len(), len, "{} ids", ids.len());
+    }
+}
+
 #[test]
 fn refused_bitmaps() {
     let rows = rows("refused_bitmaps");
