@@ -197,7 +197,7 @@ impl<'a> Query<'a> {
     /// ```
     pub fn ids(&self) -> Result<QueryIds<'_>, QueryError> {
         if let [set] = self.sets[..] {
-            return Ok(QueryIds::new(Later::Set(set, 0)));
+            return Ok(QueryIds::new(Later::Set(set.cursor())));
         }
         let query = queries::Query::new(&self.sets, &self.steps, Vec::new()).map_err(|fault| match fault {
             queries::QueryError::Memory => QueryError::Memory,

@@ -33,26 +33,24 @@ pub struct QueryIds<'a> {
 
 /// What is after the ids that were found.
 pub(super) enum Later<'a> {
-    /// The ids of a set alone from a position on, which a walk over bitmaps would find many times slower if they are far apart.
-    Set(sets::IdSet<'a>, usize),
+    /// The ids of a set alone, which a walk over bitmaps would find many times slower if they are far apart.
+    Set(sets::Cursor<'a>),
     Query(queries::Query<'a>),
 }
 
 impl Later<'_> {
     fn next_ids(&mut self, ids: &mut [u32]) -> usize {
         match self {
-            Later::Set(set, position) => {
-                let len = set.copy_range(*position, ids);
-                *position += len;
-                len
-            }
+            Later::Set(cursor) => cursor.fill(ids),
             Later::Query(query) => query.next_ids(ids),
         }
     }
 
     fn seek(&mut self, target: u32) {
         match self {
-            Later::Set(set, position) => *position = set.rank(target).max(*position),
+            Later::Set(cursor) => {
+                cursor.seek(target);
+            }
             Later::Query(query) => query.seek(target),
         }
     }

@@ -5,6 +5,7 @@ use core::ops::Bound;
 use core::ops::Bound::{Excluded, Included, Unbounded};
 
 use super::set_models::{FORMS, Model, Numbers, listed, packed, some_ids};
+use super::set_reading::in_slices;
 use crate::set::{Cursor, IdSet, IdSetBuf, Iter, SetCursor};
 
 /// A model of each form, and its set.
@@ -143,6 +144,20 @@ fn filled_to_the_end() {
     let mut cursor = set.cursor();
     assert_eq!((cursor.fill(&mut page), cursor.fill(&mut page), cursor.position()), (500, 200, 700));
     assert!(page[..200].iter().copied().eq(500..700) && page[200..].iter().copied().eq(200..500));
+}
+
+/// Cursors and iterators over slices of bytes, of bits and full ones, each as long or as short as it can be.
+#[test]
+fn slices_of_each_length() {
+    let mut numbers = Numbers(130);
+    for lengths in [&[31][..], &[32], &[33], &[255], &[256], &[31, 32, 33, 255, 256, 1]] {
+        for slices in [1, 33, 256] {
+            let ids = in_slices(&mut numbers, slices, lengths);
+            let (set, ids) = (packed(&ids), listed(&ids));
+            walks(&mut numbers, set.cursor(), SetCursor::fill, &ids);
+            moves(&mut numbers, set.iter(), &ids);
+        }
+    }
 }
 
 #[test]

@@ -59,7 +59,7 @@ fn sets_of_each_form() {
 }
 
 /// Ids of one chunk, in slices of these lengths in turn.
-fn in_slices(numbers: &mut Numbers, slices: u32, lengths: &[usize]) -> Model {
+pub(super) fn in_slices(numbers: &mut Numbers, slices: u32, lengths: &[usize]) -> Model {
     let mut ids = Model::new();
     for (index, length) in (0..slices).zip(lengths.iter().cycle()) {
         let (first, before) = (65_536 + 256 * (256 * index / slices), ids.len());

@@ -1,9 +1,9 @@
 -- Ids that are unpacked, and searched.
-use Rattle.std.proofs.Common.{◌≡◌, ℕ, zero, suc, ◌+◌, ◌-◌, ◌^◌, ◌<◌, ◌≤◌, ◌++◌, ◌∙◌, Bool, List, [], ◌∷◌, Some, ap, arith, cond, drop, get_or, inl, inr, length, ltb, max, refl, set, slice_get, sym, take}
+use Rattle.std.proofs.Common.{◌≡◌, ℕ, zero, suc, ◌+◌, ◌-◌, ◌^◌, ◌<◌, ◌≤◌, ◌++◌, ◌∙◌, Bool, List, [], ◌∷◌, Some, ap, arith, cond, drop, get_or, inl, inr, length, ltb, max, min, refl, set, slice_get, sym, take}
 use lib.Seq.{take-add}
 use Rattle.std.proofs.Math.Nat.{max-eq_left, max-eq_right}
 use Rattle.std.proofs.lemmas.Bool.{cases_lt, lt-ltb}
-use Rattle.std.proofs.lemmas.List.{append-nil, drop-append-le, drop-drop, drop-take, drop_all, get_or-drop, get_or-take, length-append, length-drop, length-take-le, take-append-le, take-take, take_all, take_more, take_more_set}
+use Rattle.std.proofs.lemmas.List.{append-nil, drop-append-le, drop-drop, drop-take, drop_all, drop_more, get_or-drop, get_or-take, length-append, length-drop, length-take-le, take-append-le, take-take, take_all, take_more, take_more_set}
 use Rattle.std.proofs.lemmas.Option.{get_or_from_slice_get, slice_get-get_or, slice_get_within}
 use Rattle.bitpack_slices.specs.Bodies.{IsRising}
 use Rattle.bitpack_slices.specs.Reads.{rank}
@@ -153,3 +153,11 @@ tail_is count copied old long =
     let gone : drop count copied ≡ [] = drop_all count copied (omega arith) in
     let same : drop count (copied ++ drop count old) ≡ drop count old = drop-append-le count copied (drop count old) (omega arith) ∙ ap (λ (l : List ℕ). l ++ drop count old) gone in
     ap (take (length (copied ++ drop count old) - count)) same ∙ take_all (length (copied ++ drop count old) - count) (drop count old) (omega (arith, length-append copied (drop count old)))
+
+-- the next id comes before those after it
+pub stepped : (next after id : ℕ) (xs ys : List ℕ) → Some id ≡ slice_get xs next → after ≡ min (length xs) (next + 1) → ys ≡ xs → drop next xs ≡ id ∷ drop after ys
+stepped next after id xs ys found e same =
+    let there = slice_get_within xs next id (sym found) in
+    let on : next + 1 ≡ after = omega arith in
+    drop_more xs next 0 there ∙ ap (λ (x : ℕ). x ∷ drop (next + 1) xs) (get_or_from_slice_get xs next id 0 (sym found))
+    ∙ ap (λ (n : ℕ). id ∷ drop n xs) on ∙ ap (λ (l : List ℕ). id ∷ drop after l) (sym same)

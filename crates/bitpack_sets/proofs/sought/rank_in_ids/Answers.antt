@@ -1,5 +1,5 @@
 -- Each step passes ids that are below the target, and what is left is counted.
-use Rattle.std.proofs.Common.{◌≤◌, ◌+◌, ◌-◌, ◌^◌, ◌<◌, ◌≡◌, ◌∙◌, ℕ, List, ap, arith, drop, length, take}
+use Rattle.std.proofs.Common.{◌≤◌, ◌+◌, ◌-◌, ◌^◌, ◌≡◌, ◌∙◌, ℕ, List, ap, arith, drop, length, take}
 use Rattle.std.proofs.lemmas.List.{length-drop, take_all}
 use Rattle.bitpack_slices.specs.Bodies.{IsRising}
 use Rattle.bitpack_slices.specs.Reads.{rank}

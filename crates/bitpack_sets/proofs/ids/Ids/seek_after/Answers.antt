@@ -1,5 +1,5 @@
 -- All ids that are unpacked are passed, and the one that is found is held, or more are unpacked from there on.
-use Rattle.std.proofs.Common.{◌≡◌, ◌+◌, ◌-◌, ◌∙◌, ◌^◌, ◌<◌, ◌≤◌, ℕ, List, Some, ap, arith, get_or, length, max, slice_get, subst, sym}
+use Rattle.std.proofs.Common.{◌≡◌, ◌-◌, ◌∙◌, ◌^◌, ◌<◌, ◌≤◌, ℕ, List, ap, arith, get_or, length, max, slice_get, subst, sym}
 use Rattle.std.proofs.lemmas.Option.{slice_get_within}
 use Rattle.bitpack_sets.specs.Opened.{ids}
 use Rattle.bitpack_sets.specs.declared.id_set.IdSet.{IdSet}
