@@ -169,7 +169,7 @@ impl LastBlock {
 
 /// The sum of a number and the codes up to an index, modulo 2 to the power of 32. It adds all codes, and those after the index as 0, so that the
 /// compiler adds several at once.
-#[inline(always)]
+#[inline(never)]
 fn sum(before: u32, codes: &[u32; 128], last: usize) -> u32
     requires { last < 128 }
     ensures { result ≡ slice_index (values_of Sorted before codes.now) last }
