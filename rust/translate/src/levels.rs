@@ -55,7 +55,7 @@ const fn entries(file: File, of: &'static str, functions: &'static [&'static str
 
 /// What the functions for Rust and for C call, if it reads or writes more than a few bytes. Blocks of 128 and of 32 values gain less than the choice
 /// costs, and so does one value of a column.
-pub const ENTRIES: [Entries; 27] = [
+pub const ENTRIES: [Entries; 29] = [
     entries(("bitpacking", "bitpacker8x.rt"), "BitPacker8x", &["pack_unmeasured", "unpack_counted", "width_counted"]),
     entries(("sets", "opening.rt"), "opening", &["test_encoding"]),
     entries(("queries", "combining.rt"), "combining", &["combine_to", "combine_count", "is_disjoint", "is_subset"]),
