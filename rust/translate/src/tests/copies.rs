@@ -83,9 +83,9 @@ fn is_missing(made: &Result<String, Wrong>) -> bool {
 
 #[test]
 fn entries_go_over() {
-    let source = "pub fn best<T: AsTerm>(terms: &[T], mut len: usize) -> usize {\n    len\n}\n";
+    let source = "pub fn best_bounded<T: AsTerm>(terms: &[T], mut len: usize) -> usize {\n    len\n}\n";
     let made = first(source, "ranking", "ranking.rt").unwrap();
-    let call = "return cross(unsafe { crate::v3::ranking::ranking::best::<T>(cross(terms), cross(len)) });";
+    let call = "return cross(unsafe { crate::v3::ranking::ranking::best_bounded::<T>(cross(terms), cross(len)) });";
     assert!(made.contains("#[cfg(level_v3)]\nif crate::level::is_v3() {"), "{made}");
     assert!(made.contains(call) && made.ends_with("    len\n}\n"), "{made}");
     assert_eq!(first("fn one() {}\n", "sets", "other.rt"), Ok("fn one() {}\n".into()));
