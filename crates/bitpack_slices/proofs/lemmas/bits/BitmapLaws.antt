@@ -128,7 +128,7 @@ those_on passes a n =
     let front : List ℕ = filter passes (range_with_len 0 a) in
     let later : List ℕ = filter (λ i. passes (a + i)) (range_with_len 0 n) in
     ap length (those_split passes 0 a n ∙ ap (λ (k : ℕ). front ++ filter passes (range_with_len k n)) first
-        ∙ ap (λ (l : List ℕ). front ++ l) (those_raised passes a 0 n))
+    ∙ ap (λ (l : List ℕ). front ++ l) (those_raised passes a 0 n))
     ∙ length-append front (map (λ i. a + i) later) ∙ ap (λ (k : ℕ). length front + k) (length-map later (λ i. a + i))
 
 -- the numbers of a word

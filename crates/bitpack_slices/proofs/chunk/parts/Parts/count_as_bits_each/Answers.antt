@@ -37,9 +37,9 @@ loop-high-preserved c =
     let next : 256 * (h + 1) ≡ 256 * h + 256 = omega arith in
     let more = ap (λ (n : ℕ). length (those n P)) next ∙ those_on P (256 * h) 256 in
     let same = ap length (those_same 256 (has_bit c.combined_words.result) (λ i. P (256 * h + i)) (λ i small.
-        c.combined_words.ensures i small
-        ∙ ap (λ (b : Bool). apply c.args.operation b (has_bit c.words_of-b.result i))
-        (own_bits h i c.args.self c.words_of-a.result c.requires.bits (omega arith) small (c.words_of-a.ensures i small))
-        ∙ ap (apply c.args.operation (has (256 * h + i) (numbers_in_parts c.args.self)))
-        (own_bits h i c.args.other c.words_of-b.result c.requires.other_bits (omega arith) small (c.words_of-b.ensures i small)))) in
+    c.combined_words.ensures i small
+    ∙ ap (λ (b : Bool). apply c.args.operation b (has_bit c.words_of-b.result i))
+    (own_bits h i c.args.self c.words_of-a.result c.requires.bits (omega arith) small (c.words_of-a.ensures i small))
+    ∙ ap (apply c.args.operation (has (256 * h + i) (numbers_in_parts c.args.self)))
+    (own_bits h i c.args.other c.words_of-b.result c.requires.other_bits (omega arith) small (c.words_of-b.ensures i small)))) in
     omega (arith, c.loop-high.invariant, c.count_bits-count.ensures)
