@@ -20,7 +20,7 @@ COMPILER = "1.95"
 RECORDED = {
     "ranking": (684134, 1.3),
     "advancing": (7203697, 1.3),
-    "seeking": (698970, 1.3),
+    "seeking": (12000, 1.3),
     "querying": (22113922, 1.3),
     "getting": (4302723, 1.15),
     "unpacking": (110284, 1.08),
