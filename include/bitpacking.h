@@ -568,6 +568,13 @@ ptrdiff_t bitpacking_set_from_roaring(const uint8_t *roaring, size_t roaring_len
  * the bitmap alone, and returns 0 if that has a fault. */
 size_t bitpacking_set_from_roaring_room(const uint8_t *roaring, size_t roaring_len);
 
+/* Writes the ids of a set as a bitmap at the start of bytes, and returns its number of bytes: what roaring_bitmap_portable_serialize of CRoaring writes
+ * after roaring_bitmap_run_optimize. If bytes_len is below that number it writes nothing. A call takes about 90 KB of stack. */
+size_t bitpacking_set_to_roaring(const bitpacking_set *view, uint8_t *bytes, size_t bytes_len);
+
+/* Returns how many bytes bitpacking_set_to_roaring writes. */
+size_t bitpacking_set_roaring_size(const bitpacking_set *view);
+
 /* Writes the set of the ids that a query has at the start of bytes, and returns its number of bytes. It requires views, steps and space as
  * bitpacking_set_query does, and room and bytes as bitpacking_set_combine does, and has the errors of both. *position is written only if the steps
  * have a fault, or if space is too short for them. Then nothing else is written. */
@@ -980,6 +987,24 @@ typedef struct bitpacking_scored {
  */
 ptrdiff_t bitpacking_best(const bitpacking_term *terms, size_t terms_len, const uint8_t *classes, size_t classes_len, size_t at_least,
                           bitpacking_walk *walks, size_t walks_len, bitpacking_scored *found, size_t found_len);
+
+/* The bounds of a term: the greatest part of each block of 128 documents that have it, from the first on. They borrow their memory. */
+typedef struct bitpacking_block_bounds {
+    const uint32_t *parts;
+    size_t parts_len;
+} bitpacking_block_bounds;
+
+#define BITPACKING_BLOCK_BOUNDS_EMPTY {NULL, 0}
+
+/* Writes the greatest part of each block of a term for documents of these classes, and 0 after the last block. A term has (its ids + 127) / 128 blocks.
+ * It reads the whole term, so it is for terms of many queries: then bitpacking_best_bounded reads few blocks of a common word. */
+void bitpacking_term_bound(const bitpacking_term *term, const uint8_t *classes, size_t classes_len, uint32_t *parts, size_t parts_len);
+
+/* Writes what bitpacking_best writes, and returns what it returns. bounds are of the first terms, in their order. bitpacking_term_bound wrote them of
+ * the same terms for the same classes: with others, documents that are among the best may be missing. A term may have empty bounds. */
+ptrdiff_t bitpacking_best_bounded(const bitpacking_term *terms, size_t terms_len, const bitpacking_block_bounds *bounds, size_t bounds_len,
+                                  const uint8_t *classes, size_t classes_len, size_t at_least, bitpacking_walk *walks, size_t walks_len,
+                                  bitpacking_scored *found, size_t found_len);
 
 /* Writes the best of these documents, which increase, as bitpacking_best does. They may be the answer to any query, such as bitpacking_set_query
  * gives. A document that has none of the words has score 0.

@@ -3,3 +3,6 @@
 
 -- The set of a bitmap in Roaring's portable format, such as roaringbitmap::bytea of pg_roaringbitmap.
 CREATE FUNCTION idset_from_roaring(bytea) RETURNS idset AS 'MODULE_PATHNAME' LANGUAGE C IMMUTABLE STRICT PARALLEL SAFE COST 100;
+
+-- The ids as such a bitmap: CAST (idset_to_roaring(ids) AS roaringbitmap).
+CREATE FUNCTION idset_to_roaring(idset) RETURNS bytea AS 'MODULE_PATHNAME' LANGUAGE C IMMUTABLE STRICT PARALLEL SAFE COST 100;

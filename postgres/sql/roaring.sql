@@ -28,6 +28,10 @@ SELECT said(decode('3B300010' || repeat('FF', 513) || string_agg(k || 'FFFF', ''
 -- Runs whose set has many times the bytes: 500 of each 1,000 numbers.
 CREATE TABLE bitmaps AS SELECT decode('3B300000010000F37E4100' || string_agg(encode(set_byte(set_byte('\x0000F301', 0, n & 255), 1, n >> 8), 'hex'), '' ORDER BY n), 'hex')
     AS bitmap FROM generate_series(0, 64000, 1000) n;
+-- Sets as bitmaps.
+SELECT idset_to_roaring('{}'), idset_to_roaring('{5}'), idset_to_roaring('{3,7,65536}'), idset_to_roaring('{0,1,2,3,4,5,6,7,8,9}'),
+    idset_to_roaring('{0,1,2,3,4,5,6,7,8,9,131077}');
+SELECT idset_to_roaring(idset(ARRAY(SELECT generate_series(0, 65534, 2)))) = ('\x3A300000010000000000FF7F10000000' || repeat('55', 8192))::bytea;
 -- A column of them becomes one of sets, also by an update.
 ALTER TABLE bitmaps ADD ids idset;
 UPDATE bitmaps SET ids = idset_from_roaring(bitmap);

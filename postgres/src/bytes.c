@@ -260,6 +260,19 @@ Datum idset_from_roaring(PG_FUNCTION_ARGS)
     PG_RETURN_POINTER(ended(value, (size_t)size));
 }
 
+/* The ids as a bitmap. */
+PG_FUNCTION_INFO_V1(idset_to_roaring);
+Datum idset_to_roaring(PG_FUNCTION_ARGS)
+{
+    bitpacking_set set = opened_argument(fcinfo, 0);
+    size_t size = bitpacking_set_roaring_size(&set);
+    struct varlena *bitmap = palloc(VARHDRSZ + size);
+
+    bitpacking_set_to_roaring(&set, (uint8_t *)VARDATA(bitmap), size);
+    SET_VARSIZE(bitmap, VARHDRSZ + size);
+    PG_RETURN_POINTER(bitmap);
+}
+
 /* A copy of the bytes: the cast to bytea, and what is sent in the binary form. Replication frees it. */
 PG_FUNCTION_INFO_V1(idset_send);
 Datum idset_send(PG_FUNCTION_ARGS)

@@ -38,7 +38,8 @@ def arrays(draw, most=3000):
 
 @given(arrays(9000), st.booleans())
 def test_bitmaps(ids, as_runs):
-    assert IdSet.from_roaring(bitmap(ids, as_runs and len(ids) > 0)) == IdSet(ids)
+    packed = IdSet.from_roaring(bitmap(ids, as_runs and len(ids) > 0))
+    assert packed == IdSet(ids) == IdSet.from_roaring(packed.to_roaring())
 
 
 def test_bitmaps_of_each_kind():

@@ -38,7 +38,7 @@ def sets_round(ids, text, bounds):
         call(packed, other), call(packed, alone), call(alone, other, packed), call(packed)
     packed == other, packed == IdSet(ids), packed <= other, other < packed, packed >= other, packed > other, packed != other
     packed.isdisjoint(alone), packed.issubset(ids), packed.issuperset([5]), hash(packed), repr(packed), np.asarray(packed)
-    IdSet.from_roaring(bytearray(BITMAP))
+    IdSet.from_roaring(bytearray(BITMAP)), packed.to_roaring()
     IdSet.open_many(*IdSet.pack_many(ids, bounds)), IdSet.open(bytearray(text)), IdSet.open(packed.data), IdSet(packed)
     pickle.loads(pickle.dumps(packed, 5)), pickle.loads(pickle.dumps(packed, 2)), copy.copy(packed), packed.data.tobytes(), packed.nbytes
     packed.__arrow_c_array__(), packed.__arrow_c_schema__(), IdSet(ids[::-1]), IdSet(ids.tolist()), IdSet(iter(ids.tolist())), IdSet(
@@ -91,8 +91,8 @@ def refused_round(ids, text, bounds):
         lambda: fimulowen.Term([5], [5], TABLE, [5]),
         lambda: fimulowen.best([5], 5),
         lambda: fimulowen.best_among([5, 4], [fimulowen.Term([5], [5], TABLE)], 5),
-        lambda: core.term(int, packed, ids, ids),
-        lambda: core.term(fimulowen.Term, packed, ids, TABLE),
+        lambda: core.term(int, packed, ids, ids, b""),
+        lambda: core.term(fimulowen.Term, packed, ids, TABLE, b""),
         lambda: core.best((5,), b"", 1, 1),
         lambda: core.best_among(TABLE, (), b"", 1),
         lambda: core.set_group(ids, 5),

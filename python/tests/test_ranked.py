@@ -157,16 +157,16 @@ def test_core_refuses_other_objects():
     ids, parts, made = np.array([3, 5], "u4"), np.ones(256, "u4"), Term([3], [1], np.ones((1, 256), "u4"))
     packed, wrongs = IdSet(ids), [np.arange(3), np.arange(3.0), np.arange(6, dtype="u4")[::2], b"1234", [1], None]
     for wrong in wrongs:
-        for call in (lambda it: _core.term(Term, packed, it, parts), lambda it: _core.term(Term, packed, ids, it)):
+        for call in (lambda it: _core.term(Term, packed, it, parts, b""), lambda it: _core.term(Term, packed, ids, it, b"")):
             with pytest.raises((TypeError, ValueError, BufferError)):
                 call(wrong)
         with pytest.raises((TypeError, ValueError, BufferError)):
             _core.best_among(wrong, (made,), b"", 1)
     for wrong in (int, IdSet, _core.Set, None, 5):
         with pytest.raises(TypeError):
-            _core.term(wrong, packed, ids, parts)
+            _core.term(wrong, packed, ids, parts, b"")
     with pytest.raises(TypeError):
-        _core.term(Term, ids, ids, parts)
+        _core.term(Term, ids, ids, parts, b"")
     for wrong in ([made], (made, 5), (packed,), None, 5):
         for call in (lambda it: _core.best(it, b"", 1, 1), lambda it: _core.best_among(ids, it, b"", 1)):
             with pytest.raises((TypeError, SystemError)):
@@ -251,7 +251,7 @@ def long():
 @pytest.mark.parametrize("name", ["term", "best", "best_among"])
 def test_lock_is_released(name, long):
     calls = {
-        "term": lambda: _core.term(Term, long.packed, long.counts, long.table),
+        "term": lambda: _core.term(Term, long.packed, long.counts, long.table, b""),
         "best": lambda: _core.best(long.terms, b"", 1, 1000),
         "best_among": lambda: _core.best_among(long.ids, long.terms, b"", 1000),
     }

@@ -66,6 +66,7 @@ UNLOCKED = {
     "set_open": lambda it: _core.set_open(IdSet, it.data),
     "set_open_many": lambda it: _core.set_open_many(IdSet, it.data, it.two),
     "set_from_roaring": lambda it: _core.set_from_roaring(IdSet, it.bitmap),
+    "to_roaring": lambda it: it.a._to_roaring(),
     "set_append": lambda it: _core.set_append(IdSet, it.a, it.ids[:0]),
     "intersect": lambda it: _core.set_combine(INTERSECT, it.pair),
     "unite": lambda it: _core.set_combine(UNITE, it.pair),

@@ -46,6 +46,7 @@ def test_bitmaps():
     for row in found:
         packed = IdSet.from_roaring(data(row["bytes"]))
         assert packed == IdSet(np.array(numbers(row["ids"]), "u4")), row
+        assert row["croaring"] == "no" or packed.to_roaring() == data(row["bytes"]), row
 
 
 def test_refused_bitmaps():

@@ -13,7 +13,7 @@ from texts import code, paths, results, text_of
 C_TYPES = {"usize": "size_t", "isize": "ptrdiff_t", "QueryStep": "uint32_t"}
 C_TYPES |= {"u8": "uint8_t", "u32": "uint32_t", "i32": "int32_t", "u64": "uint64_t"}
 CRATE, RANKED = "crates/bitpacking_c/src", "crates/bitpack_ranked/src"
-STRUCTS = {"Walk": f"{RANKED}/walk.rt", "Scored": f"{RANKED}/found.rt"}
+STRUCTS = {"Walk": f"{RANKED}/walk.rt", "Scored": f"{RANKED}/found.rt", "BlockBounds": f"{RANKED}/block_bounds.rt"}
 STRUCTS |= {f"{it}{what}": f"{CRATE}/{it.lower()}_{what.lower()}.rt" for it in ("Set", "Column") for what in ("View", "Builder")}
 STRUCTS |= {"TermView": f"{CRATE}/term_view.rt"}
 C_TYPES.update({name: "bitpacking" + re.sub("[A-Z]", r"_\g<0>", name.removesuffix("View")).lower() for name in STRUCTS})

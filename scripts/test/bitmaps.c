@@ -1,13 +1,14 @@
 /* Reads the tables vectors/bitmaps.tsv and vectors/refused_bitmaps.tsv, of bitmaps in Roaring's portable format. Each is written as the set of its ids
-   with the work space and the room that it needs, with more and with less, and is refused if it is cut or goes on. Other bytes are refused for their
-   fault, also without work space and room. Prints what is wrong, and last how many bitmaps and refusals it read. */
+   with the work space and the room that it needs, with more and with less, and is refused if it is cut or goes on. Its set is written as a bitmap, as
+   CRoaring does if the table says so. Other bytes are refused for their fault, also without work space and room. Prints what is wrong, and last how many
+   bitmaps and refusals it read. */
 #include "bitpacking.h"
 
 #include "tables.h"
 
 enum { CONTAINERS = 4097, MOST = 320000, ITEMS = 4 * CONTAINERS, LEN = 1 << 18, ROOM = BITPACKING_SET_ROOM(MOST) };
 
-static uint8_t roaring[LEN], set[ROOM + 1], right[ROOM];
+static uint8_t roaring[LEN], written[LEN], set[ROOM + 1], right[ROOM];
 static uint32_t ids[MOST], room[ITEMS + 1];
 
 /* A bitmap is written as the set in `right`. */
@@ -27,6 +28,23 @@ static void reads(size_t len, ptrdiff_t wanted)
     expect(bitpacking_set_from_roaring(roaring, len, room, items, NULL, 0) == BITPACKING_SHORT, "no byte is enough");
     if (items > 0)
         expect(bitpacking_set_from_roaring(roaring, len, room, items - 1, set, ROOM) == BITPACKING_SHORT, "too little work space");
+}
+
+/* The set in `right` is written as a bitmap: this one, if CRoaring writes it. */
+static void writes(size_t len, ptrdiff_t size, int by_croaring)
+{
+    bitpacking_set view = BITPACKING_SET_EMPTY;
+    size_t wanted;
+
+    expect(bitpacking_set_open(right, (size_t)size, &view) == 0, "a set is not opened");
+    wanted = bitpacking_set_roaring_size(&view);
+    expect(!by_croaring || wanted == len, "a bitmap of another size");
+    memset(written, 0xA5, LEN);
+    expect(bitpacking_set_to_roaring(&view, NULL, 0) == wanted, "another size without room");
+    expect(bitpacking_set_to_roaring(&view, written, wanted - 1) == wanted && written[0] == 0xA5, "written with a byte too few");
+    expect(bitpacking_set_to_roaring(&view, written, wanted) == wanted && written[wanted] == 0xA5, "another size of a bitmap");
+    expect(!by_croaring || memcmp(written, roaring, wanted) == 0, "other bytes of a bitmap");
+    expect(bitpacking_set_from_roaring(written, wanted, room, ITEMS, set, ROOM) == size && memcmp(set, right, (size_t)size) == 0, "another set");
 }
 
 /* Bytes are refused for a fault, which comes before a lack of room. */
@@ -80,8 +98,11 @@ static size_t all_of(uint32_t count)
 static void most(void)
 {
     size_t len = all_of(CONTAINERS - 1);
+    ptrdiff_t size;
 
-    reads(len, bitpacking_set_pack_range(0, 268435456, right, ROOM));
+    size = bitpacking_set_pack_range(0, 268435456, right, ROOM);
+    reads(len, size);
+    writes(len, size, 1);
     len = all_of(CONTAINERS);
     expect(bitpacking_set_from_roaring_room(roaring, len) == ITEMS, "work space for each container");
     expect(bitpacking_set_from_roaring(roaring, len, room, ITEMS, set, ROOM) == BITPACKING_TOO_LONG, "too many ids");
@@ -100,8 +121,10 @@ int main(void)
             refusals++;
         } else {
             const size_t len = read_bytes(column[1], roaring);
+            const ptrdiff_t size = bitpacking_set_pack(ids, read_values(column[0], ids), right, ROOM, NULL);
 
-            reads(len, bitpacking_set_pack(ids, read_values(column[0], ids), right, ROOM, NULL));
+            reads(len, size);
+            writes(len, size, strcmp(column[2], "yes") == 0);
             cuts(len);
             bitmaps++;
         }

@@ -4,7 +4,7 @@
 #include "tables.h"
 
 enum { CASES = 300, SETS = 3, MOST = 1500, SPAN = 80000, CLASSES = 500, COUNTS = 4, BEST = 12 };
-enum { PARTS = COUNTS * BITPACKING_CLASSES };
+enum { PARTS = COUNTS * BITPACKING_CLASSES, BLOCKS = (MOST + 127) / 128 };
 
 static uint32_t ids[SETS][MOST], lens[SETS], values[SETS][MOST], parts[PARTS];
 static uint8_t set_bytes[SETS][BITPACKING_SET_ROOM(MOST)], column_bytes[SETS][BITPACKING_COLUMN_ROOM(MOST)], classes[CLASSES];
@@ -177,6 +177,8 @@ static void ranks(void)
 {
     static bitpacking_walk walks[SETS];
     static bitpacking_term terms[SETS];
+    static uint32_t greatest[SETS][BLOCKS];
+    bitpacking_block_bounds bounds[SETS];
     const bitpacking_term empty = BITPACKING_TERM_EMPTY;
     bitpacking_scored right[BEST], best[BEST];
     const size_t at_least = drawn(SETS + 1), room = drawn(BEST + 1), len = scan_best(at_least, room, right);
@@ -186,8 +188,10 @@ static void ranks(void)
     for (k = 0; k < SETS; k++) {
         terms[k] = empty;
         expect(bitpacking_term_start(&terms[k], &sets[k], &columns[k], parts, PARTS) == 0, "a term is not started");
+        bounds[k] = (bitpacking_block_bounds){greatest[k], drawn(BLOCKS + 1)};
+        bitpacking_term_bound(&terms[k], classes, CLASSES, greatest[k], bounds[k].parts_len);
     }
-    count = bitpacking_best(terms, SETS, classes, CLASSES, at_least, walks, SETS, best, room);
+    count = bitpacking_best_bounded(terms, SETS, bounds, drawn(SETS + 1), classes, CLASSES, at_least, walks, SETS, best, room);
     expect(count == (ptrdiff_t)len, "another number of the best");
     for (k = 0; k < len; k++)
         expect(best[k].score == right[k].score && best[k].id == right[k].id, "others are the best");

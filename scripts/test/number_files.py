@@ -58,6 +58,8 @@ WRONG_CALLS = {
     "pack --sort --as plain": "a plain column is not sorted: --as sorted is",
     "pack --from lists": "FORMAT is roaring",
     **{f"pack {it} --from roaring": "only --output may be beside --from" for it in ("--sort", "--binary", "--as set")},
+    "unpack --to lists": "FORMAT is roaring",
+    "unpack --binary --to roaring": "only --output may be beside --to",
     "head --lines -1 set": "'-1' is not a number from 0 to 4294967295",
     "rank set": "an operand is missing",
     "contains set 1.0": "'1.0' is not a number from 0 to 4294967295",
@@ -84,6 +86,7 @@ FAILING = {
     "pack --from roaring set": "set: reading a bitmap of Roaring: 130 is the first byte of no set",
     "unpack .": ".: Is a directory (os error 21)",
     **{f"{it} set column": "column: it is a column, not a set" for it in ("and", "or", "not", "xor")},
+    "unpack --to roaring column": "column: it is a column, not a set",
     "seek plain 2": "plain: the column is plain",
     "get set 0 2": "set: there is no position 2: it has 2 numbers",
     "pack --as plain --binary long": "long: there are more than 268435456 numbers",
@@ -201,10 +204,13 @@ def packing(program):
 
 
 def bitmaps(program):
-    """The bitmaps of vectors/ are packed, from standard input and from a file to a file, and bytes that are none are refused."""
+    """The bitmaps of vectors/ are packed, from standard input and from a file to a file, and bytes that are none are refused. Sets are written as
+    CRoaring does."""
     for number, row in enumerate(rows.table("bitmaps.tsv")):
         given, wanted = rows.octets(row["bytes"]), packed("set", [*rows.spelled_ids(row["ids"])])
         yield f"bitmap {number}", program.differs((0, wanted), *"pack --from roaring".split(), given=given)
+        if row["croaring"] == "yes":
+            yield f"bitmap {number} of a set", program.differs((0, given), *"unpack --to roaring".split(), given=wanted)
     program.write(bitmap=given)
     why = program.differs((0, b""), *"pack --from roaring --output out bitmap".split())
     yield "a bitmap, to a file", why or other(bytes_of(f"{program.folder}/out"), wanted)

@@ -11,6 +11,8 @@ static uint32_t tables[WORDS][PARTS + 1];
 /* No document has the last word, whose term is not started. */
 static bitpacking_term terms[WORDS + 1];
 static bitpacking_walk walks[WORDS + 1];
+static uint32_t parts[WORDS][2];
+static bitpacking_block_bounds bounds[WORDS];
 static bitpacking_scored found[DOCUMENTS];
 
 static void opened(const uint32_t *of_ids, const uint32_t *of_counts, size_t len, size_t word, bitpacking_set *set, bitpacking_column *column)
@@ -48,6 +50,8 @@ static void asks(size_t at_least, size_t room, const bitpacking_scored *right, s
 {
     memset(walks, 0xA5, sizeof walks);
     are(bitpacking_best(terms, WORDS + 1, classes, DOCUMENTS, at_least, walks, WORDS + 1, found, room), right, len, "others are the best");
+    are(bitpacking_best_bounded(terms, WORDS + 1, bounds, WORDS, classes, DOCUMENTS, at_least, walks, WORDS + 1, found, room), right, len,
+        "others are the best with bounds");
     expect(walks[0].unpacked <= 1 && walks[1].unpacked <= 1 && walks[2].unpacked == 0, "more blocks are unpacked than there are");
 }
 
@@ -66,6 +70,12 @@ static void worked(void)
     classes[9] = 100;
     start(first, first_counts, 3, 0);
     start(second, second_counts, 2, 1);
+    for (i = 0; i < WORDS; i++) {
+        memset(parts[i], 0xA5, sizeof parts[i]);
+        bitpacking_term_bound(&terms[i], classes, DOCUMENTS, parts[i], 2);
+        bounds[i] = (bitpacking_block_bounds){parts[i], 1};
+    }
+    expect(parts[0][0] == 600 && parts[1][0] == 800 && parts[0][1] == 0 && parts[1][1] == 0, "other bounds");
     asks(1, 10, any, 4);
     asks(0, 2, any, 2);
     asks(2, 10, any + 2, 1);

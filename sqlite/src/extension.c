@@ -14,6 +14,7 @@ static const struct {
 } FUNCTIONS[] = {
     {"idset", -1, idset_make, NULL, 0},
     {"idset_from_roaring", 1, idset_from_roaring, NULL, 0},
+    {"idset_to_roaring", 1, idset_to_roaring, NULL, 0},
     {"idset_len", 1, idset_len, NULL, 0},
     {"idset_min", 1, idset_min, NULL, 0},
     {"idset_max", 1, idset_max, NULL, 0},

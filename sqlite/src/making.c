@@ -193,6 +193,24 @@ void idset_from_roaring(sqlite3_context *context, int count, sqlite3_value **val
         refuse(context, "argument 1 is not a bitmap of Roaring: %s", why_of(size, room));
 }
 
+/* The ids of a set as a bitmap. */
+void idset_to_roaring(sqlite3_context *context, int count, sqlite3_value **values)
+{
+    bitpacking_set set = BITPACKING_SET_EMPTY;
+    uint8_t *bytes;
+    size_t size;
+
+    if (has_null(count, values) || !opened(context, values, 0, &set))
+        return;
+    size = bitpacking_set_roaring_size(&set);
+    if (!(bytes = sqlite3_malloc64(size))) {
+        sqlite3_result_error_nomem(context);
+        return;
+    }
+    bitpacking_set_to_roaring(&set, bytes, size);
+    sqlite3_result_blob64(context, bytes, size, sqlite3_free);
+}
+
 /* The state of idset_pack. */
 typedef struct {
     gathered numbers;

@@ -8,7 +8,7 @@ import decoders
 import pytest
 from databases import TOP, connected, packed, refusal, unpacked, value
 
-OF_ONE = ["from_roaring", "len", "min", "max"]
+OF_ONE = ["from_roaring", "to_roaring", "len", "min", "max"]
 OF_A_NUMBER = ["contains", "rank", "seek", "add", "remove"]
 OF_SETS = [f"{name}{kind}" for name in ("intersect", "unite", "subtract", "xor") for kind in ("", "_len")]
 AGGREGATES = ["unite_agg", "intersect_agg"]
@@ -180,7 +180,9 @@ def test_refused_bytes_of_the_vectors(db):
 
 def test_bitmaps_of_the_vectors(db):
     for row in rows("bitmaps"):
-        assert unpacked(db, value(db, "SELECT idset_from_roaring(?)", data(row["bytes"]))) == numbers(row["ids"])
+        made = value(db, "SELECT idset_from_roaring(?)", data(row["bytes"]))
+        assert unpacked(db, made) == numbers(row["ids"])
+        assert row["croaring"] == "no" or value(db, "SELECT idset_to_roaring(?)", made) == data(row["bytes"])
     words, found = faults(), rows("refused_bitmaps")
     for row in found:
         wanted = f"idset_from_roaring: argument 1 is not a bitmap of Roaring: {words[-20 - int(row['number'])]}"

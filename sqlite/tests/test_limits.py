@@ -74,7 +74,7 @@ CALLS += ["sum((SELECT sum(id) FROM idset_each(ids)))", "sum(idset_contains((SEL
 CALLS += [f"sum(length(idset_{it}(ids, :s)))" for it in ("intersect", "unite", "subtract", "xor", "unite_len", "xor_len")]
 CALLS += ["sum(idset_xor_len(ids, :s, ids))", "sum(length(idset_xor(ids, :s, ids)))", "sum(length(idset_add(ids, n + 5000000)))"]
 CALLS += ["sum(length(idset_add(ids, n + 1)))", "sum(length(idset_remove(ids, 0)))", "sum(length(idset_range(ids, 100, 90000)))"]
-CALLS += ["sum(length(idset_from_roaring(x'3B3000000100000900010000000900')) + n)"]
+CALLS += ["sum(length(idset_from_roaring(x'3B3000000100000900010000000900')) + n)", "sum(length(idset_to_roaring(ids)))"]
 CALLS += ["sum(length(idset('[9,8]', n, ids)))", "length(idset(json_group_array(n * 37 % 1000)))"]
 
 

@@ -31,7 +31,7 @@ pub(crate) fn part_at(set: &IdSet, chunks: &Chunks, position: usize, from: usize
 {
     let key = chunks.key(position);
     let end = chunks.end(position, key);
-    let count = count_ids(set, chunks, key, position, end, from);
+    let count = chunks.count(position, end);
     Part {
         key,
         begin: position,
@@ -39,42 +39,4 @@ pub(crate) fn part_at(set: &IdSet, chunks: &Chunks, position: usize, from: usize
         from,
         count,
     }
-}
-
-/// How many ids a chunk has, which is between these positions, after `from` ids.
-#[inline(always)]
-fn count_ids(
-    set: &IdSet,
-    chunks: &Chunks,
-    key: u32,
-    position: usize,
-    end: usize,
-    from: usize,
-) -> usize
-    requires at { IsAt (ids set.now) chunks.now position from }
-    requires within { position < positions chunks.now }
-    requires last { end ≤ positions chunks.now }
-    requires later { position < end }
-    requires one { chunks.now.count ≢ 0 → end ≤ position + 1 }
-    requires key { key ≡ first_key (ids_from chunks.now position) }
-    requires small { key < 65536 }
-    requires passed { key < first_key (ids_from chunks.now end) }
-    requires shared { chunks.now.count ≡ 0 → (k : ℕ) → position ≤ k → k < end → slice_index (quads_of chunks.now.rest.now) k / 65536 ≡ key }
-    ensures { result ≡ length (lows_between chunks.now position end) }
-{
-    match chunks.coded(position) {
-        Some((count, _)) => count,
-        None => rank_of_key(set, key + 1) - from,
-    }
-}
-
-/// How many ids have a lower key.
-fn rank_of_key(set: &IdSet, key: u32) -> usize
-    requires { key ≤ 65536 }
-    ensures { result ≡ rank (key * 65536) (ids set.now) }
-{
-    if key == NO_KEY {
-        return set.len();
-    }
-    set.rank(key * 65536)
 }

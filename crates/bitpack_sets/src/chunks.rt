@@ -231,11 +231,26 @@ impl<'a> Chunks<'a> {
         }
     }
 
+    /// How many ids are between two positions, which share a key.
+    #[inline(always)]
+    pub fn count(&self, position: usize, end: usize) -> usize
+        requires later { position < end }
+        requires within { end ≤ positions self.now }
+        requires one { self.now.count ≢ 0 → end ≤ position + 1 }
+        ensures { result ≡ length (lows_between self.now position end) }
+    {
+        match self.coded(position) {
+            Some((count, _)) => count,
+            None => end - position,
+        }
+    }
+
     /// How many ids a chunk has, and its body, if the set is in chunks.
     #[inline(always)]
     pub fn coded(&self, position: usize) -> Option<(usize, &'a [u8])>
         requires within { position < positions self.now }
         ensures chunks { IfSome result (λ _. self.now.count ≢ 0) }
+        ensures none { result ≡ None → self.now.count ≡ 0 }
         ensures some { IfSome result (λ coded. 0 < coded.0) }
         ensures rising { IfSome result (λ _. IsRising 0 65536 (lows_between self.now position (position + 1))) }
         ensures small { IfSome result (λ coded. length coded.1.now ≤ 2 * coded.0) }

@@ -1,11 +1,13 @@
 //! Ranked search over terms, with work space of the caller.
 
-ghost use Rattle.bitpacking_c.specs.Ranking.{FindsBest, FindsBestAmong, StartsTerm, word_of_views};
+ghost use Rattle.std.specs.Prelude.{map};
+ghost use Rattle.bitpack_ranked.specs.Bounds.{AreBounds, HaveBounds};
+ghost use Rattle.bitpacking_c.specs.Ranking.{FindsBest, FindsBestAmong, StartsTerm, word_of, word_of_views};
 
 use crate::column_view::ColumnView;
 use crate::set_view::SetView;
 use crate::term_view::TermView;
-use bitpack_ranked::{Parts, Scored, Walk, best, best_among};
+use bitpack_ranked::{BlockBounds, Parts, Scored, Walk, best_among, best_bounded, bound_blocks};
 use bitpack_sets::AsSet;
 use bitpack_sets::laws::one_encoding;
 
@@ -54,13 +56,39 @@ pub extern "C" fn bitpacking_best(
     //   document; at most 2^28 terms
     ensures { FindsBest terms.now classes.now at_least (walks.old, walks.new) (found.old, found.new) result }
 {
+    bitpacking_best_bounded(terms, &[], classes, at_least, walks, found)
+}
+
+/// Writes the greatest part of each block of 128 documents of a term, from the first on, and 0 after the last.
+#[unsafe(no_mangle)]
+pub extern "C" fn bitpacking_term_bound(term: &TermView<'_>, classes: &[u8], parts: &mut [u32])
+    // claim: c/48 `term_bound`, `best_bounded`: as `ranked/5-6`, of such terms
+    ensures { AreBounds classes.now (word_of term.now) parts.new }
+{
+    bound_blocks(term, classes, parts);
+}
+
+/// As `bitpacking_best`, with bounds that `bitpacking_term_bound` wrote for the same classes: the first are of the first term, and so on.
+#[unsafe(no_mangle)]
+pub extern "C" fn bitpacking_best_bounded(
+    terms: &[TermView<'_>],
+    bounds: &[BlockBounds<'_>],
+    classes: &[u8],
+    at_least: usize,
+    walks: &mut [Walk],
+    found: &mut [Scored],
+) -> isize
+    requires bounded { HaveBounds classes.now (map word_of terms.now) (map (λ its. its.parts.now) bounds.now) }
+    // claim: c/48
+    ensures { FindsBest terms.now classes.now at_least (walks.old, walks.new) (found.old, found.new) result }
+{
     if terms.len() > MOST {
         return -25;
     }
     if walks.len() < terms.len() {
         return -3;
     }
-    best(terms, classes, at_least, walks, found) as isize
+    best_bounded(terms, bounds, classes, at_least, walks, found) as isize
 }
 
 /// Writes the best of increasing documents to the front of `found`, the best of them first, as many as there are and fit. Returns how many these

@@ -1,13 +1,19 @@
-//! Bitmaps in Roaring's portable format, written as id sets.
+//! Bitmaps in Roaring's portable format, written as id sets, and id sets as bitmaps.
 
 ghost use Rattle.std.specs.Prelude.{◌≡◌, ◌*◌, ◌^◌, ◌<◌, IfOk, MatchOption, Err, length};
 ghost use Rattle.bitpack_queries.specs.Gathered.{PutsSet};
 ghost use Rattle.bitpack_roaring.specs.Faults.{fault};
 ghost use Rattle.bitpack_roaring.specs.Roaring.{containers, ids_of};
+ghost use Rattle.bitpack_roaring.specs.Written.{WritesBitmap, roaring};
+ghost use Rattle.bitpack_sets.specs.Reads.{ids_in};
 ghost use Rattle.bitpacking_c.specs.SetRoaring.{NeedsRoom, ReadsBitmap};
 
 use crate::set_packing::answer;
-use bitpack_roaring::{roaring_room, set_from_roaring, test_roaring};
+use crate::set_view::SetView;
+use bitpack_roaring::{
+    roaring_len, roaring_room, set_from_roaring, set_to_roaring, test_roaring,
+};
+use bitpack_sets::AsSet;
 use bitpack_sets::laws::longest_encoding;
 use bitpack_slices::SetError;
 
@@ -46,6 +52,25 @@ pub extern "C" fn bitpacking_set_from_roaring_room(roaring: &[u8]) -> usize
         Ok(room) => room,
         Err(_) => 0,
     }
+}
+
+/// Writes the ids of a set as a bitmap in Roaring's portable format at the start of `bytes`, and returns its length. If `bytes` is shorter, nothing
+/// changes.
+#[unsafe(no_mangle)]
+pub extern "C" fn bitpacking_set_to_roaring(view: &SetView<'_>, bytes: &mut [u8]) -> usize
+    // claim: c/47 `set_to_roaring`, `set_roaring_size`: as `roaring/3-4`
+    ensures { WritesBitmap (ids_in view.now.bytes.now) result bytes.old bytes.new }
+{
+    set_to_roaring(&view.as_set(), bytes)
+}
+
+/// How many bytes `bitpacking_set_to_roaring` writes.
+#[unsafe(no_mangle)]
+// claim: c/47
+pub extern "C" fn bitpacking_set_roaring_size(view: &SetView<'_>) -> usize
+    ensures { result ≡ length (roaring (ids_in view.now.bytes.now)) }
+{
+    roaring_len(&view.as_set())
 }
 
 /// Writes the set of the ids of a bitmap.

@@ -2,7 +2,7 @@
 
 use std::ffi::{OsStr, OsString};
 
-use bitpacking::set;
+use bitpacking::set::IdSetBuf;
 
 use crate::files::print;
 use crate::{Result, numbers, verbs};
@@ -32,10 +32,10 @@ const VERBS: [(&str, Run); 15] = [
     ("contains", verbs::contains),
     ("sum", verbs::sum),
     ("between", verbs::between),
-    ("and", |call| verbs::combine(call, set::intersect_all)),
-    ("or", |call| verbs::combine(call, set::unite_all)),
-    ("not", |call| verbs::combine(call, set::subtract_all)),
-    ("xor", |call| verbs::combine(call, verbs::xor_all)),
+    ("and", |call| verbs::combine(call, IdSetBuf::intersect_all)),
+    ("or", |call| verbs::combine(call, IdSetBuf::unite_all)),
+    ("not", |call| verbs::combine(call, IdSetBuf::subtract_all)),
+    ("xor", |call| verbs::combine(call, IdSetBuf::symmetric_difference_all)),
 ];
 
 /// The help of the program, which has the first two lines of the part of each verb.

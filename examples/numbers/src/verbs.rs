@@ -3,7 +3,7 @@
 use std::ffi::OsStr;
 
 use bitpacking::column::{ColumnBuf, Kind};
-use bitpacking::set::{IdSet, IdSetBuf};
+use bitpacking::set::{Error, IdSet, IdSetBuf};
 
 use crate::arguments::Call;
 use crate::files::{Output, about, bytes_of, name_of, print};
@@ -68,8 +68,26 @@ fn write_first(opened: &Opened, len: usize, is_binary: bool, output: Output) -> 
 }
 
 pub fn unpack(call: &Call) -> Result<bool> {
-    let (opened, is_binary) = (Opened::read(&call.operands[0])?, call.has("--binary"));
+    let (file, is_binary) = (&call.operands[0], call.has("--binary"));
+    match call.value("--to").map(OsStr::to_str) {
+        None => {}
+        Some(Some("roaring")) if !is_binary => {
+            let bitmap = set_of(file)?.to_roaring().map_err(|error| about(file, error))?;
+            return Output::new(call.value("--output"), false)?.end(&bitmap).map(|()| true);
+        }
+        Some(Some("roaring")) => return Err(call.wrong("only --output may be beside --to")),
+        Some(_) => return Err(call.wrong("FORMAT is roaring")),
+    }
+    let opened = Opened::read(file)?;
     write_first(&opened, opened.len(), is_binary, Output::new(call.value("--output"), !is_binary)?)
+}
+
+/// The set of a file.
+fn set_of(file: &OsStr) -> Result<IdSetBuf> {
+    match Opened::read(file)? {
+        Opened::Set(set) => Ok(set),
+        Opened::Column(_) => Err(about(file, "it is a column, not a set")),
+    }
 }
 
 pub fn head(call: &Call) -> Result<bool> {
@@ -160,25 +178,18 @@ pub fn between(call: &Call) -> Result<bool> {
     write_text(Output::new(None, true)?, &found)
 }
 
-/// The ids that an odd number of sets has.
-pub fn xor_all(sets: &[&IdSet]) -> Vec<u32> {
-    sets.iter().fold(IdSetBuf::default(), |ids, set| ids.symmetric_difference(set)).unpack()
-}
-
-pub fn combine(call: &Call, combined: fn(&[&IdSet]) -> Vec<u32>) -> Result<bool> {
-    let sets = call.operands.iter().map(|file| match Opened::read(file)? {
-        Opened::Set(set) => Ok(set),
-        Opened::Column(_) => Err(about(file, "it is a column, not a set")),
-    });
-    let sets = sets.collect::<Result<Vec<_>>>()?;
-    let ids = combined(&sets.iter().map(|set| &**set).collect::<Vec<_>>());
+/// Combines sets into one. It unpacks only the ids that it writes as text.
+pub fn combine(call: &Call, combined: fn(&[&IdSet]) -> std::result::Result<IdSetBuf, Error>) -> Result<bool> {
+    let sets = call.operands.iter().map(|file| set_of(file)).collect::<Result<Vec<_>>>()?;
+    let set = combined(&sets.iter().map(|set| &**set).collect::<Vec<_>>()).map_err(|error| error.to_string())?;
     let output = Output::new(call.value("--output"), call.has("--text") || call.has("--count"))?;
+    let len = set.len();
     if call.has("--count") {
-        output.end(format!("{}\n", ids.len()).as_bytes())?;
+        output.end(format!("{len}\n").as_bytes())?;
     } else if call.has("--text") {
-        write_text(output, &ids)?;
+        write_first(&Opened::Set(set), len, false, output)?;
     } else {
-        output.end(&packed(None, &ids)?)?;
+        output.end(&set.into_bytes())?;
     }
-    Ok(!ids.is_empty())
+    Ok(len > 0)
 }

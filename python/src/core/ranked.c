@@ -2,12 +2,12 @@
 #include "core.h"
 #include <string.h>
 
-/* A word with what its term borrows: the set of its documents, its packed counts and its table. */
+/* A word with what its term borrows: the set of its documents, its packed counts and its table; and its bounds. */
 typedef struct {
     PyObject_HEAD
     PyObject *documents;
     uint8_t *counts;
-    uint32_t *table;
+    uint32_t *table, *parts;
     bitpacking_term term;
 } Term;
 
@@ -17,9 +17,16 @@ static void Term_dealloc(PyObject *self)
 
     PyMem_Free(((Term *)self)->counts);
     PyMem_Free(((Term *)self)->table);
+    PyMem_Free(((Term *)self)->parts);
     Py_XDECREF(((Term *)self)->documents);
     ((freefunc)PyType_GetSlot(type, Py_tp_free))(self);
     Py_DECREF((PyObject *)type);
+}
+
+/* How many bounds the term has: one for each block of 128 documents. */
+static size_t parts_of(const Term *self)
+{
+    return (bitpacking_set_len(&self->term.set) + 127) / 128;
 }
 
 /* Packs the counts, copies the table, and starts the term of both. Returns a fault, or 0; or 1 if memory ran out. */
@@ -46,17 +53,30 @@ static ptrdiff_t start(Term *self, const uint32_t *counts, size_t len, const uin
     return size;
 }
 
-/* term(type, documents, counts, table): nothing else writes the arrays. */
+/* Makes the bounds of a term that was started, for documents of these classes. Returns 0, or 1 if memory ran out. */
+static ptrdiff_t bound(Term *self, const char *classes, size_t len)
+{
+    self->parts = PyMem_Malloc(4 * parts_of(self) + 4);
+    if (!self->parts)
+        return 1;
+    UNLOCKED(bitpacking_set_len(&self->term.set),
+             bitpacking_term_bound(&self->term, (const uint8_t *)classes, len, self->parts, parts_of(self)));
+    return 0;
+}
+
+/* term(type, documents, counts, table, classes): nothing else writes the arrays. */
 static PyObject *term(PyObject *m, PyObject *args)
 {
     PyObject *type, *documents, *counts, *table;
     Py_buffer numbers, parts;
+    const char *classes;
+    Py_ssize_t classes_len;
     ptrdiff_t fault = 1;
     Term *self;
 
     (void)m;
-    if (!PyArg_ParseTuple(args, "OO!OO", &type, Set_type, &documents, &counts, &table) || !subtype_of(Term_type, type) ||
-        get_items(counts, &numbers, 4, 0) < 0)
+    if (!PyArg_ParseTuple(args, "OO!OOy#", &type, Set_type, &documents, &counts, &table, &classes, &classes_len) ||
+        !subtype_of(Term_type, type) || get_items(counts, &numbers, 4, 0) < 0)
         return NULL;
     if (get_items(table, &parts, 4, 0) < 0) {
         PyBuffer_Release(&numbers);
@@ -67,6 +87,8 @@ static PyObject *term(PyObject *m, PyObject *args)
         self->documents = Py_NewRef(documents);
         fault = start(self, numbers.buf, (size_t)numbers.len / 4, parts.buf, (size_t)parts.len / 4);
     }
+    if (self && fault == 0)
+        fault = bound(self, classes, (size_t)classes_len);
     PyBuffer_Release(&numbers);
     PyBuffer_Release(&parts);
     if (self && fault != 0)
@@ -82,13 +104,14 @@ static PyObject *term(PyObject *m, PyObject *args)
     return (PyObject *)self;
 }
 
-/* Copies the terms of a tuple into new memory, and adds up their documents. */
-static bitpacking_term *terms_of(PyObject *tuple, size_t *documents)
+/* Copies the terms of a tuple and after them their bounds into new memory, and adds up their documents. */
+static bitpacking_term *terms_of(PyObject *tuple, bitpacking_block_bounds **bounds, size_t *documents)
 {
     Py_ssize_t len = PyTuple_Size(tuple), i;
-    bitpacking_term *terms = len < 0 ? NULL : PyMem_Malloc(sizeof *terms * (size_t)(len ? len : 1));
+    bitpacking_term *terms = len < 0 ? NULL : PyMem_Malloc((sizeof *terms + sizeof **bounds) * (size_t)(len ? len : 1));
 
     *documents = 0;
+    *bounds = (bitpacking_block_bounds *)(terms + (len < 0 ? 0 : len));
     if (!terms && len >= 0)
         PyErr_NoMemory();
     for (i = 0; terms && i < len; i++) {
@@ -99,6 +122,7 @@ static bitpacking_term *terms_of(PyObject *tuple, size_t *documents)
             return NULL;
         }
         terms[i] = ((Term *)it)->term;
+        (*bounds)[i] = (bitpacking_block_bounds){((Term *)it)->parts, parts_of((Term *)it)};
         *documents += bitpacking_set_len(&terms[i].set);
     }
     return terms;
@@ -131,7 +155,8 @@ static PyObject *pair_of(const bitpacking_scored *found, size_t len)
 static PyObject *ranked(PyObject *tuple, const Py_buffer *classes, size_t at_least, size_t most, const Py_buffer *given)
 {
     size_t all, len, room;
-    bitpacking_term *terms = terms_of(tuple, &all);
+    bitpacking_block_bounds *bounds;
+    bitpacking_term *terms = terms_of(tuple, &bounds, &all);
     bitpacking_walk *walks;
     bitpacking_scored *found;
     ptrdiff_t count;
@@ -151,7 +176,8 @@ static PyObject *ranked(PyObject *tuple, const Py_buffer *classes, size_t at_lea
                                                                              (size_t)classes->len, found, room));
         answer = count < 0 ? fail(count) : pair_of(found, (size_t)count);
     } else {
-        UNLOCKED(all, count = bitpacking_best(terms, len, classes->buf, (size_t)classes->len, at_least, walks, len, found, room));
+        UNLOCKED(all, count = bitpacking_best_bounded(terms, len, bounds, len, classes->buf, (size_t)classes->len, at_least, walks, len,
+                                                      found, room));
         answer = count < 0 ? fail(count) : pair_of(found, (size_t)count);
     }
     PyMem_Free(terms);
@@ -160,7 +186,7 @@ static PyObject *ranked(PyObject *tuple, const Py_buffer *classes, size_t at_lea
     return answer;
 }
 
-/* best(terms, classes, at_least, most): the tuple holds the terms, and nothing writes the classes. */
+/* best(terms, classes, at_least, most): the tuple holds the terms, which have these classes, and nothing writes them. */
 static PyObject *best(PyObject *m, PyObject *args)
 {
     PyObject *terms, *answer;
@@ -215,7 +241,7 @@ PyType_Spec Term_spec = {"fimulowen._core.Term", sizeof(Term), 0,
                          Py_TPFLAGS_DEFAULT | Py_TPFLAGS_BASETYPE | Py_TPFLAGS_DISALLOW_INSTANTIATION, slots};
 
 PyMethodDef ranked_functions[] = {
-    {"term", term, METH_VARARGS, SIGNED("term(type, documents, counts, table, /)", "A term.")},
+    {"term", term, METH_VARARGS, SIGNED("term(type, documents, counts, table, classes, /)", "A term.")},
     {"best", best, METH_VARARGS, SIGNED("best(terms, classes, at_least, most, /)", "Documents, and their scores.")},
     {"best_among", best_among, METH_VARARGS, SIGNED("best_among(documents, terms, classes, most, /)", "Documents, and their scores.")},
     {NULL, NULL, 0, NULL},

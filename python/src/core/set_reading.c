@@ -279,6 +279,19 @@ static PyObject *Set_remove(PyObject *self, PyObject *ids)
     return answer < 0 ? fail(answer) : PyLong_FromSsize_t(answer);
 }
 
+/* Its bitmap in Roaring's portable format. */
+static PyObject *Set_to_roaring(PyObject *self, PyObject *none)
+{
+    size_t len = (size_t)Set_length(self), room;
+    PyObject *made;
+
+    (void)none;
+    UNLOCKED(len, room = bitpacking_set_roaring_size(view_of(self)));
+    if ((made = PyBytes_FromStringAndSize(NULL, (Py_ssize_t)room)))
+        UNLOCKED(len, bitpacking_set_to_roaring(view_of(self), (uint8_t *)PyBytes_AS_STRING(made), room));
+    return made;
+}
+
 static PyObject *Set_is_disjoint(PyObject *self, PyObject *other)
 {
     int answer;
@@ -299,6 +312,7 @@ PyMethodDef Set_methods[] = {
     {"_rank", Set_rank_many, METH_O, SIGNED("_rank($self, targets, /)", "How many ids are below each target of an array of int64.")},
     {"_mask", Set_mask, METH_O, SIGNED("_mask($self, count, /)", "As many bools, which are true at the ids.")},
     {"_remove", Set_remove, METH_O, SIGNED("_remove($self, ids, /)", "Keeps the ids that the set lacks; returns how many.")},
+    {"_to_roaring", Set_to_roaring, METH_NOARGS, SIGNED("_to_roaring($self, /)", "The bitmap of the ids.")},
     {"_is_disjoint", Set_is_disjoint, METH_O, SIGNED("_is_disjoint($self, other, /)", "Whether no id is in both sets.")},
     {"_read", Set_read, METH_O, SIGNED("_read($self, out, /)", "Fills out with ids; returns how many.")},
     {NULL, NULL, 0, NULL},

@@ -38,8 +38,9 @@ class Term(_core.Term):
     _classes: bytes
 
     def __new__(cls, documents: Integers, counts: Integers, table: npt.ArrayLike, classes: Bytes = b"") -> Term:
-        made: Any = _core.term(cls, as_set(documents), u32(counts), _rows_of(table))
-        made._classes = _bytes_of(classes)
+        its = _bytes_of(classes)
+        made: Any = _core.term(cls, as_set(documents), u32(counts), _rows_of(table), its)
+        made._classes = its
         return made
 
     def __repr__(self) -> str:
