@@ -38,39 +38,54 @@ struct Ranked : Way {
     const Corpus &corpus;
     const Packed &sets;
     Tables &tables;
-    std::map<size_t, std::pair<bitpacking_term, std::vector<uint8_t>>> started;
+    struct Started {
+        bitpacking_term term = BITPACKING_TERM_EMPTY;
+        std::vector<uint8_t> counts;
+        std::vector<uint32_t> parts;
+    };
+    std::map<size_t, Started> started;
+    std::vector<const Started *> words;
     std::vector<bitpacking_term> terms;
+    std::vector<bitpacking_block_bounds> bounds;
     std::vector<bitpacking_walk> walks;
 
     Ranked(const Corpus &its, const Packed &packed, Tables &all) : Way("sets and columns"), corpus(its), sets(packed), tables(all) {}
 
-    // A term is started at the first query with its word.
-    const bitpacking_term &term(size_t word)
+    // A term is started at the first query with its word, and has its bounds from then on.
+    const Started &start(size_t word)
     {
-        auto [found, is_new] = started.try_emplace(word, bitpacking_term BITPACKING_TERM_EMPTY, BITPACKING_COLUMN_ROOM(corpus.len(word)));
-        auto &[term, room] = found->second;
+        auto [found, is_new] = started.try_emplace(word);
+        auto &[term, counts, parts] = found->second;
         if (is_new) {
             bitpacking_column column = BITPACKING_COLUMN_EMPTY;
             const std::vector<uint32_t> &table = tables.of(word);
-            ptrdiff_t size = bitpacking_column_pack(BITPACKING_PLAIN, corpus.counts_of(word), corpus.len(word), room.data(), room.size(), nullptr);
-            if (size < 0 || bitpacking_column_open(room.data(), size, &column) != 0 ||
+            counts.resize(BITPACKING_COLUMN_ROOM(corpus.len(word)));
+            ptrdiff_t size = bitpacking_column_pack(BITPACKING_PLAIN, corpus.counts_of(word), corpus.len(word), counts.data(), counts.size(), nullptr);
+            if (size < 0 || bitpacking_column_open(counts.data(), size, &column) != 0 ||
                 bitpacking_term_start(&term, &sets.views[word], &column, table.data(), table.size()) != 0)
                 fail("a term is not started");
+            parts.resize((corpus.len(word) + 127) / 128);
+            bitpacking_term_bound(&term, corpus.classes.data(), corpus.documents(), parts.data(), parts.size());
         }
-        return term;
+        return found->second;
     }
 
     size_t answer(const Query &query, uint32_t *out) override
     {
         bitpacking_scored found[BEST];
-        terms.clear();
+        words.clear(), terms.clear(), bounds.clear();
         for (size_t word : query.words)
-            terms.push_back(term(word));
-        std::sort(terms.begin(), terms.end(),
-                  [](const auto &one, const auto &other) { return bitpacking_set_len(&one.set) < bitpacking_set_len(&other.set); });
+            words.push_back(&start(word));
+        std::sort(words.begin(), words.end(), [](const auto *one, const auto *other) {
+            return bitpacking_set_len(&one->term.set) < bitpacking_set_len(&other->term.set);
+        });
+        for (const Started *word : words) {
+            terms.push_back(word->term);
+            bounds.push_back({word->parts.data(), word->parts.size()});
+        }
         walks.resize(std::max(walks.size(), terms.size()));
-        ptrdiff_t count = bitpacking_best(terms.data(), terms.size(), corpus.classes.data(), corpus.documents(), at_least(query),
-                                          walks.data(), walks.size(), found, BEST);
+        ptrdiff_t count = bitpacking_best_bounded(terms.data(), terms.size(), bounds.data(), bounds.size(), corpus.classes.data(),
+                                                  corpus.documents(), at_least(query), walks.data(), walks.size(), found, BEST);
         if (count < 0)
             fail(bitpacking_error_text(count));
         for (ptrdiff_t i = 0; i < count; i++)
