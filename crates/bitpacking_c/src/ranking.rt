@@ -56,7 +56,7 @@ pub extern "C" fn bitpacking_best(
     //   document; at most 2^28 terms
     ensures { FindsBest terms.now classes.now at_least (walks.old, walks.new) (found.old, found.new) result }
 {
-    bitpacking_best_bounded(terms, &[], classes, at_least, walks, found)
+    rank(terms, &[], classes, at_least, walks, found)
 }
 
 /// Writes the greatest part of each block of 128 documents of a term, from the first on, and 0 after the last.
@@ -80,6 +80,21 @@ pub extern "C" fn bitpacking_best_bounded(
 ) -> isize
     requires bounded { HaveBounds classes.now (map word_of terms.now) (map (λ its. its.parts.now) bounds.now) }
     // claim: c/48
+    ensures { FindsBest terms.now classes.now at_least (walks.old, walks.new) (found.old, found.new) result }
+{
+    rank(terms, bounds, classes, at_least, walks, found)
+}
+
+/// Writes the best of the documents that have enough of the words, with the bounds of the first.
+fn rank(
+    terms: &[TermView<'_>],
+    bounds: &[BlockBounds<'_>],
+    classes: &[u8],
+    at_least: usize,
+    walks: &mut [Walk],
+    found: &mut [Scored],
+) -> isize
+    requires bounded { HaveBounds classes.now (map word_of terms.now) (map (λ its. its.parts.now) bounds.now) }
     ensures { FindsBest terms.now classes.now at_least (walks.old, walks.new) (found.old, found.new) result }
 {
     if terms.len() > MOST {
