@@ -11,7 +11,7 @@ use Rattle.bitpack_slices.specs.Slices.{quads_of}
 use Rattle.bitpack_sets.specs.Chunks.{first_key, ids_from, lows_between, positions}
 use Rattle.bitpack_sets.specs.Directory.{chunk_at, ids_of_chunks, key_at}
 use Rattle.bitpack_roaring.proofs.HeadLaws.{two_small}
-use Rattle.bitpack_sets.proofs.ForCallers.{ids_are_read}
+use Rattle.bitpack_sets.proofs.ForCallers.{between_array, between_chunk, from_array, from_chunks, ids_are_read, positions_array, positions_chunks}
 use Rattle.bitpack_sets.specs.Opened.{ids}
 use Rattle.bitpack_sets.specs.declared.chunks.Chunks.{Chunks}
 use Rattle.bitpack_sets.specs.declared.id_set.IdSet.{IdSet}
@@ -57,31 +57,7 @@ drop_front (x ∷ xs) ys = drop_front xs ys
 take_front : (n : ℕ) (xs ys : List ℕ) → n ≡ length xs → take n (xs ++ ys) ≡ xs
 take_front n xs ys e = take-append-le n xs ys (omega arith) ∙ take_all n xs (omega arith)
 
--- ---- the forms of a set
-
-abbrev chunks_from : ℕ → List ℕ → ℕ → List (ℕ × List ℕ)
-chunks_from count rest p = map (chunk_at count rest) (range_with_len p (count - p))
-
-from_array : (set : Chunks) (p : ℕ) → set.count ≡ 0 → ids_from set p ≡ drop p (quads_of set.rest.now)
-from_array set p h = ap (λ (b : Bool). cond b (drop p (quads_of set.rest.now)) (ids_of_chunks (chunks_from set.count set.rest.now p))) (eq-eqb set.count 0 h)
-
-from_chunks : (set : Chunks) (p : ℕ) → set.count ≢ 0 → ids_from set p ≡ ids_of_chunks (chunks_from set.count set.rest.now p)
-from_chunks set p h = ap (λ (b : Bool). cond b (drop p (quads_of set.rest.now)) (ids_of_chunks (chunks_from set.count set.rest.now p))) (ne_eqb set.count 0 h)
-
-positions_array : (set : Chunks) → set.count ≡ 0 → positions set ≡ length set.rest.now / 4
-positions_array set h = ap (λ (b : Bool). cond b (length set.rest.now / 4) set.count) (eq-eqb set.count 0 h)
-
-positions_chunks : (set : Chunks) → set.count ≢ 0 → positions set ≡ set.count
-positions_chunks set h = ap (λ (b : Bool). cond b (length set.rest.now / 4) set.count) (ne_eqb set.count 0 h)
-
-between_array : (set : Chunks) (p end : ℕ) → set.count ≡ 0 → lows_between set p end ≡ map (λ x. x % 65536) (take (end - p) (drop p (quads_of set.rest.now)))
-between_array set p end h =
-    ap (λ (b : Bool). cond b (map (λ x. x % 65536) (take (end - p) (drop p (quads_of set.rest.now)))) (cond (eqb p end) [] (chunk_at set.count set.rest.now p).1)) (eq-eqb set.count 0 h)
-
-between_chunk : (set : Chunks) (p end : ℕ) → set.count ≢ 0 → p ≢ end → lows_between set p end ≡ (chunk_at set.count set.rest.now p).1
-between_chunk set p end h ne =
-    ap (λ (b : Bool). cond b (map (λ x. x % 65536) (take (end - p) (drop p (quads_of set.rest.now)))) (cond (eqb p end) [] (chunk_at set.count set.rest.now p).1)) (ne_eqb set.count 0 h)
-    ∙ ap (λ (b : Bool). cond b [] (chunk_at set.count set.rest.now p).1) (ne_eqb p end ne)
+-- ---- the ids of a chunk, and those after it
 
 of_shared : (key : ℕ) (ids : List ℕ) → ((k : ℕ) → k < length ids → get_or ids k 0 / 65536 ≡ key) → ids ≡ map (λ x. key * 65536 + x) (map (λ x. x % 65536) ids)
 of_shared key [] h = refl
@@ -93,8 +69,6 @@ of_shared key (y ∷ ys) h =
 key_of : (key : ℕ) (xs rest : List ℕ) → 0 < length xs → IsRising 0 65536 xs → first_key (map (λ x. key * 65536 + x) xs ++ rest) ≡ key
 key_of key [] rest h r = absurd (omega arith)
 key_of key (x ∷ xs) rest h (a, r) = let top = rising_top_is (x + 1) 65536 xs r in omega arith
-
--- ---- the ids of a chunk, and those after it
 
 pub record IsSplit (set : Chunks) (position end key : ℕ) : Type 0 where
   pub split : ids_from set position ≡ map (λ x. key * 65536 + x) (lows_between set position end) ++ ids_from set end
@@ -175,7 +149,7 @@ parts_split set p end key is r up small =
     let all : AreParts 65536 0 65536 ps = (omega arith, is.some, is.rising, are) in
     (later, ap (parts 65536) (is.split ∙ ap (λ (l : List ℕ). front ++ l) (sym (join_parts 65536 ys))) ∙ parts_join 65536 0 65536 ps all)
 
--- ---- how many ids it has
+-- ---- its key
 
 first_small : (ys : List ℕ) → 0 < length ys → IsRising 0 (2 ^ 32) ys → first_key ys < 65536
 first_small [] h r = absurd (omega arith)
@@ -212,49 +186,6 @@ none_left set p past = elim (cases_lt 0 set.count) [
       let size = quads_len set.rest.now in
       from_array set p zero' ∙ drop_all p (quads_of set.rest.now) (omega arith))
 ]
-
-front_small : (key low k : ℕ) (xs ys : List ℕ) → IsRising low 65536 xs → k < length xs → get_or (map (λ x. key * 65536 + x) xs ++ ys) k 0 < (key + 1) * 65536
-front_small key low k [] ys r lt = absurd (omega arith)
-front_small key low zero (x ∷ xs) ys (a, r) lt = let top = rising_top 0 65536 0 (x ∷ xs) (omega arith, r) (omega arith) in omega arith
-front_small key low (suc k) (x ∷ xs) ys (a, r) lt = front_small key (x + 1) k xs ys r (omega arith)
-
-back_first : (xs ys : List ℕ) → get_or (xs ++ ys) (length xs) 0 ≡ get_or ys 0 0
-back_first [] ys = refl
-back_first (x ∷ xs) ys = back_first xs ys
-
-first_above : (key : ℕ) (ys : List ℕ) → 0 < length ys → key < first_key ys → (key + 1) * 65536 ≤ get_or ys 0 0
-first_above key [] h up = absurd (omega arith)
-first_above key (y ∷ ys) h up = omega arith
-
--- as many ids have a lower key, or this one
-pub ranked : (ids xs ys : List ℕ) (from key : ℕ) → IsRising 0 (2 ^ 32) ids → from ≤ length ids → drop from ids ≡ map (λ x. key * 65536 + x) xs ++ ys → IsRising 0 65536 xs
-    → 0 < length xs → key < first_key ys → rank ((key + 1) * 65536) ids ≡ from + length xs
-ranked ids xs ys from key r within is rise some up =
-    let front : List ℕ = map (λ x. key * 65536 + x) xs in
-    let x : ℕ = (key + 1) * 65536 in
-    let left = length-drop from ids in
-    let both = ap length is ∙ length-append front ys in
-    let long = length-map xs (λ x. key * 65536 + x) in
-    let most = rank_le x ids in
-    let at : (j : ℕ) → get_or ids (from + j) 0 ≡ get_or (front ++ ys) j 0 = λ j. sym (get_or-drop from ids j 0) ∙ ap (λ (l : List ℕ). get_or l j 0) is in
-    let last : from + (length xs - 1) + 1 ≡ from + length xs = omega arith in
-    let small : get_or ids (from + (length xs - 1)) 0 < x = subst (λ (n : ℕ). n < x) (sym (at (length xs - 1))) (front_small key 0 (length xs - 1) xs ys rise (omega arith)) in
-    let above = rank_above x 0 (2 ^ 32) (from + (length xs - 1)) ids r (omega arith) small in
-    elim (cases_lt (from + length xs) (length ids)) [
-      | inl more ↦ (
-          let here : get_or ids (from + length xs) 0 ≡ get_or ys 0 0 = at (length xs) ∙ ap (λ (n : ℕ). get_or (front ++ ys) n 0) (sym long) ∙ back_first front ys in
-          let large : x ≤ get_or ids (from + length xs) 0 = subst (λ (n : ℕ). x ≤ n) (sym here) (first_above key ys (omega arith) up) in
-          let under = rank_under x 0 (2 ^ 32) (from + length xs) ids r more large in
-          omega arith)
-      | inr all ↦ omega arith
-    ]
-
-pub rank_whole : (x : ℕ) (ids : List ℕ) → IsRising 0 x ids → length ids ≡ rank x ids
-rank_whole x [] r = refl
-rank_whole x (y ∷ ys) r =
-    let most = rank_le x (y ∷ ys) in
-    let above = rank_above x 0 x (length ys) (y ∷ ys) r (omega arith) (rising_top 0 x (length ys) (y ∷ ys) r (omega arith)) in
-    omega arith
 
 -- ---- what comes next
 
@@ -308,11 +239,6 @@ most_parts ids r = let few = few_parts 65536 0 65536 (parts 65536 ids) (parts_ar
 
 pub ids_rise : (set : IdSet) → IsRising 0 (2 ^ 32) (ids set)
 ids_rise set = (ids_are_read set.bytes.now set.are_bytes set.states.none).0.rising
-
-pub ranked_at : (all : List ℕ) (set : Chunks) (p end key from : ℕ) → IsRising 0 (2 ^ 32) all → IsAt all set p from → IsSplit set p end key → key < first_key (ids_from set end)
-    → rank ((key + 1) * 65536) all ≡ from + length (lows_between set p end)
-ranked_at all set p end key from r at is up =
-    ranked all (lows_between set p end) (ids_from set end) from key r at.few (sym at.ids_are ∙ is.split) is.rising is.some up
 
 -- a chunk has an id
 pub goes_on : (set : Chunks) (p end key : ℕ) → p ≤ end → key ≡ first_key (ids_from set p) → key < first_key (ids_from set end) → p < end

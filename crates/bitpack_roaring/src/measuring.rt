@@ -41,7 +41,7 @@ pub(crate) fn measure(set: &IdSet, flags: &mut [u64; 1024]) -> Measured
     let mut position = 0;
     let mut from = 0;
     while position < chunks.len() {
-        let part = part_at(set, &chunks, position, from);
+        let part = part_at(&chunks, position, from);
         let runs = count_runs_in(set, &chunks, part, &mut list, &mut words.0, &mut words.1);
         measured.add(part.count, runs, flags);
         position = part.end;

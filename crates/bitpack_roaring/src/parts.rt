@@ -1,14 +1,11 @@
 //! The chunks of a set, one after the other.
 
-ghost use Rattle.std.specs.Prelude.{◌≡◌, ◌≢◌, ℕ, ◌+◌, ◌*◌, ◌/◌, ◌<◌, ◌≤◌, length, slice_index};
-ghost use Rattle.bitpack_sets.specs.Chunks.{first_key, ids_from, lows_between, positions};
-ghost use Rattle.bitpack_sets.specs.Opened.{ids};
-ghost use Rattle.bitpack_slices.specs.Reads.{rank};
-ghost use Rattle.bitpack_slices.specs.Slices.{quads_of};
+ghost use Rattle.std.specs.Prelude.{◌≡◌, ◌^◌, ◌<◌, ℕ, List};
+ghost use Rattle.bitpack_sets.specs.Chunks.{ids_from, positions};
+ghost use Rattle.bitpack_slices.specs.Bodies.{IsRising};
 ghost use Rattle.bitpack_roaring.specs.inner.Walks.{IsAt, IsPart};
 
-use bitpack_sets::IdSet;
-use bitpack_sets::chunks::{Chunks, NO_KEY};
+use bitpack_sets::chunks::Chunks;
 
 /// A chunk of a set: its key, between which positions it is, how many ids are before it, and how many it has.
 #[derive(Clone, Copy)]
@@ -22,12 +19,12 @@ pub(crate) struct Part {
 
 /// The chunk that begins at a position, after `from` ids.
 #[inline(always)]
-pub(crate) fn part_at(set: &IdSet, chunks: &Chunks, position: usize, from: usize) -> Part
-    requires at { IsAt (ids set.now) chunks.now position from }
+pub(crate) fn part_at(chunks: &Chunks, position: usize, from: usize) -> Part
     requires within { position < positions chunks.now }
+    requires rising { IsRising 0 (2 ^ 32) (ids_from chunks.now position) }
     ensures begin { result.begin ≡ position }
     ensures from { result.from ≡ from }
-    ensures part { IsPart (ids set.now) chunks.now result }
+    ensures part { (ids : List ℕ) → IsAt ids chunks.now position from → IsPart ids chunks.now result }
 {
     let key = chunks.key(position);
     let end = chunks.end(position, key);

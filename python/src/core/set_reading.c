@@ -288,7 +288,7 @@ static PyObject *Set_to_roaring(PyObject *self, PyObject *none)
     (void)none;
     UNLOCKED(len, room = bitpacking_set_roaring_size(view_of(self)));
     if ((made = PyBytes_FromStringAndSize(NULL, (Py_ssize_t)room)))
-        UNLOCKED(len, bitpacking_set_to_roaring(view_of(self), (uint8_t *)PyBytes_AS_STRING(made), room));
+        UNLOCKED(len, bitpacking_set_to_roaring(view_of(self), (uint8_t *)PyBytes_AsString(made), room));
     return made;
 }
 

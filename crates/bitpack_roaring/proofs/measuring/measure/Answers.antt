@@ -24,15 +24,15 @@ loop-position-init c =
 pub overflow_add-from : goal.overflow_add-from
 overflow_add-from c =
     let few = ids_few c.args.set.now in
-    let next = c.part_at-part.ensures.part.next.few in
+    let next = (c.part_at-part.ensures.part (ids c.args.set.now) c.loop-position.invariant.at).next.few in
     omega (arith, c.part_at-part.ensures.from)
 
 pub loop-position-preserved : goal.loop-position-preserved
 loop-position-preserved c =
     let all : List ℕ = ids c.args.set.now in
     let set = c.chunks_of-chunks.result in
-    let part = c.part_at-part.ensures.part in
     let inv = c.loop-position.invariant in
+    let part = c.part_at-part.ensures.part all inv.at in
     let is = ap (λ (n : ℕ). parts 65536 (ids_from set n)) (sym c.part_at-part.ensures.begin) ∙ part.parts_are in
     record {
       at = subst (λ (n : ℕ). IsAt all set c.part_at-part.result.end (n + c.part_at-part.result.count)) c.part_at-part.ensures.from part.next;
