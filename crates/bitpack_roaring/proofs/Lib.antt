@@ -1,16 +1,24 @@
 -- The lemmas of this crate.
+mod BackLaws
 mod BitLaws
+mod BodyBack
 mod BodyLaws
 mod ChangeLaws
 mod ChunkLaws
+mod ContainerBack
 mod ContainerLaws
+mod CookieBack
 mod FallSteps
 mod FaultSteps
+mod FlagLaws
 mod GatherSteps
 mod HeadLaws
+mod LayoutLaws
 mod MeasureSteps
 mod PartLaws
+mod PlaceLaws
 mod ReadSteps
 mod RunCounts
 mod RunSteps
 mod WorkedProofs
+mod WriteSteps

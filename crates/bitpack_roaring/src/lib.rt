@@ -1,9 +1,11 @@
-//! Roaring's portable format, read from untrusted bytes.
+//! Roaring's portable format, read from untrusted bytes, and written.
 #![tactic(auto)]
 
 mod bits;
+mod bodies;
 mod changes;
 mod container;
+mod entries;
 mod head;
 mod measured;
 mod measuring;
@@ -17,4 +19,4 @@ mod writing;
 
 pub use reading::{fill_from_roaring, roaring_room, set_from_roaring};
 pub use testing::test_roaring;
-pub use writing::roaring_len;
+pub use writing::{roaring_len, set_to_roaring};
