@@ -1,4 +1,5 @@
 -- The lemmas of this crate.
+mod BetweenLaws
 mod BitLaws
 mod BodyLaws
 mod ChangeLaws
@@ -14,3 +15,4 @@ mod ReadSteps
 mod RunCounts
 mod RunSteps
 mod WorkedProofs
+mod WrittenLaws

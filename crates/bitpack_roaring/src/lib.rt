@@ -2,6 +2,8 @@
 #![tactic(auto)]
 
 mod bits;
+mod bodies;
+mod bounds;
 mod changes;
 mod container;
 mod head;
