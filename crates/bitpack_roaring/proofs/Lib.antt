@@ -1,5 +1,6 @@
 -- The lemmas of this crate.
 mod BackLaws
+mod BetweenLaws
 mod BitLaws
 mod BodyBack
 mod BodyLaws
@@ -22,3 +23,4 @@ mod RunCounts
 mod RunSteps
 mod WorkedProofs
 mod WriteSteps
+mod WrittenLaws

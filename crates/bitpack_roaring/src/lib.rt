@@ -3,6 +3,7 @@
 
 mod bits;
 mod bodies;
+mod bounds;
 mod changes;
 mod container;
 mod entries;
