@@ -27,7 +27,7 @@ within c e x y a t =
     ap (λ (l : List ℕ). c ++ l) (append_assoc e ((x ++ y) ++ a) t ∙ ap (λ (l : List ℕ). e ++ l) (append_assoc (x ++ y) a t ∙ append_assoc x y (a ++ t)))
     ∙ sym (append_assoc c e (x ++ (y ++ (a ++ t))))
 
-third : (c e s x a t : List ℕ) → c ++ (e ++ ((s ++ (x ++ a)) ++ t)) ≡ ((c ++ e) ++ s) ++ (x ++ (a ++ t))
+pub third : (c e s x a t : List ℕ) → c ++ (e ++ ((s ++ (x ++ a)) ++ t)) ≡ ((c ++ e) ++ s) ++ (x ++ (a ++ t))
 third c e s x a t =
     sym (append_assoc c e ((s ++ (x ++ a)) ++ t)) ∙ ap (λ (l : List ℕ). (c ++ e) ++ l) (append_assoc s (x ++ a) t ∙ ap (λ (l : List ℕ). s ++ l) (append_assoc x a t))
     ∙ sym (append_assoc (c ++ e) s (x ++ (a ++ t)))
@@ -100,7 +100,7 @@ module _ (ids : List ℕ) (r : IsRising 0 (2 ^ 32) ids) where
   pub four_is : any ≡ false → short_at 4 (roaring ids) 0 ≡ 12346
   four_is none = cookies.four_said count flags rest (roaring ids) (said ∙ ap (λ (b : Bool). cookie_by b count flags ++ rest) none)
 
-  cookie_size : length (cookie (lists chunks)) ≡ cond any (4 + (count + 7) / 8) 8
+  pub cookie_size : length (cookie (lists chunks)) ≡ cond any (4 + (count + 7) / 8) 8
   cookie_size = cookie_len (lists chunks) ∙ ap (λ (n : ℕ). cond any (4 + (n + 7) / 8) 8) listed
 
   pub keys_are : read.keys_start (roaring ids) ≡ length (cookie (lists chunks))

@@ -21,7 +21,7 @@ use Rattle.bitpack_roaring.specs.inner.Sizes.{bodies, entries, lists}
 abbrev run_bytes : List (ℕ × ℕ) → List ℕ
 run_bytes runs = flat_map (λ run. le_bytes 2 run.0 ++ le_bytes 2 run.1) runs
 
-container_run : (xs : List ℕ) → are_runs xs ≡ true → container xs ≡ le_bytes 2 (length (runs_of xs)) ++ run_bytes (runs_of xs)
+pub container_run : (xs : List ℕ) → are_runs xs ≡ true → container xs ≡ le_bytes 2 (length (runs_of xs)) ++ run_bytes (runs_of xs)
 unfolding container
 container_run xs e = ap (λ (b : Bool). cond b (le_bytes 2 (length (runs_of xs)) ++ run_bytes (runs_of xs)) (cond (leb (length xs) 4096) (flat_map (le_bytes 2) xs) (le_bytes 8192 (bits xs)))) e
 

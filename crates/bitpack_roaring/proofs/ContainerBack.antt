@@ -13,7 +13,8 @@ use Rattle.bitpack_slices.specs.Reads.{has}
 use Rattle.bitpack_slices.specs.Runs.{boundaries, run_numbers}
 use Rattle.bitpack_slices.specs.Slices.{number_of, ones_from, pairs_of}
 use Rattle.bitpack_roaring.proofs.PlaceLaws.{bytes_bits}
-use Rattle.bitpack_roaring.proofs.RunCounts.{runs_between, runs_bounds}
+use Rattle.bitpack_roaring.proofs.RunCounts.{runs_bounds}
+use Rattle.bitpack_roaring.specs.inner.Runs.{runs_between}
 use Rattle.bitpack_roaring.specs.Roaring.{bounds_in, bounds_of, numbers_of}
 use Rattle.bitpack_roaring.specs.Written.{are_runs, container, runs_of}
 
@@ -44,7 +45,7 @@ run_bytes : List (ℕ × ℕ) → List ℕ
 run_bytes runs = flat_map (λ run. le_bytes 2 run.0 ++ le_bytes 2 run.1) runs
 
 -- boundaries with the end of the last run
-closed : List ℕ → List ℕ
+unfoldable pub closed : List ℕ → List ℕ
 closed [] = []
 closed (begin ∷ []) = begin ∷ 65536 ∷ []
 closed (begin ∷ end ∷ bounds) = begin ∷ end ∷ closed bounds
@@ -84,7 +85,7 @@ closed_numbers (begin ∷ []) = append-nil (range_with_len begin (65536 - begin)
 closed_numbers (begin ∷ end ∷ bounds) = ap (λ (l : List ℕ). range_with_len begin (end - begin) ++ l) (closed_numbers bounds)
 
 -- the boundaries that are read of numbers that were written as runs
-bounds_read : (xs : List ℕ) → IsRising 0 65536 xs → bounds_in (le_bytes 2 (length (runs_of xs)) ++ flat_map (λ run. le_bytes 2 run.0 ++ le_bytes 2 run.1) (runs_of xs)) ≡ closed (boundaries xs)
+pub bounds_read : (xs : List ℕ) → IsRising 0 65536 xs → bounds_in (le_bytes 2 (length (runs_of xs)) ++ flat_map (λ run. le_bytes 2 run.0 ++ le_bytes 2 run.1) (runs_of xs)) ≡ closed (boundaries xs)
 unfolding run_bytes
 bounds_read xs r =
     ap (λ (l : List ℕ). bounds_of (pairs_of l)) (drop_at (le_bytes 2 (length (runs_of xs))) (run_bytes (runs_of xs)) 2 (little_len 2 (length (runs_of xs))))

@@ -10,6 +10,7 @@ mod ContainerBack
 mod ContainerLaws
 mod CookieBack
 mod FallSteps
+mod FaultBack
 mod FaultSteps
 mod FlagLaws
 mod GatherSteps

@@ -8,6 +8,7 @@ mod changes;
 mod container;
 mod entries;
 mod head;
+pub mod laws;
 mod measured;
 mod measuring;
 mod parts;
