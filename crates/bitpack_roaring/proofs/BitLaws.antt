@@ -32,11 +32,7 @@ pub bits_have : (bytes words : List ℕ) → ((x : ℕ) → x < 65536 → has_bi
 bits_have bytes words same x small = sym (has_those (has_bit words) x 65536 small) ∙ ap (has x) (bits_are bytes words same)
 
 -- all high bytes
-all_highs : (words highs : List ℕ) → highs ≡ range_with_len 0 256 → bitmap_numbers highs words ≡ those 65536 (has_bit words)
+pub all_highs : (words highs : List ℕ) → highs ≡ range_with_len 0 256 → bitmap_numbers highs words ≡ those 65536 (has_bit words)
 all_highs words highs are =
     those_same 65536 (λ x. has (x / 256) highs && has_bit words x) (has_bit words)
     (λ x small. ap (λ (l : List ℕ). has (x / 256) l && has_bit words x) are ∙ ap (λ (b : Bool). b && has_bit words x) (has_all (x / 256) 0 256 (omega arith) (omega arith)))
-
-pub all_numbers : (bytes words highs : List ℕ) → highs ≡ range_with_len 0 256 → ((x : ℕ) → x < 65536 → has_bit words x ≡ eqb (bit_at (number_of bytes) x) 1)
-    → bitmap_numbers highs words ≡ ones_from (number_of bytes) 0 65536
-all_numbers bytes words highs are same = all_highs words highs are ∙ bits_are bytes words same

@@ -1,16 +1,27 @@
 -- The lemmas of this crate.
+mod BackLaws
+mod BetweenLaws
 mod BitLaws
+mod BodyBack
 mod BodyLaws
 mod ChangeLaws
 mod ChunkLaws
+mod ContainerBack
 mod ContainerLaws
+mod CookieBack
 mod FallSteps
+mod FaultBack
 mod FaultSteps
+mod FlagLaws
 mod GatherSteps
 mod HeadLaws
+mod LayoutLaws
 mod MeasureSteps
 mod PartLaws
+mod PlaceLaws
 mod ReadSteps
 mod RunCounts
 mod RunSteps
 mod WorkedProofs
+mod WriteSteps
+mod WrittenLaws

@@ -44,7 +44,7 @@ eqb_sym m n = elim (eqb_tells m n) [
 ]
 
 -- a container that is runs is flagged
-flag_first : (m n : ℕ) (xs : List ℕ) (others : List (List ℕ)) → has m (flagged n (xs ∷ others)) ≡ ((eqb m n && are_runs xs) || has m (flagged (n + 1) others))
+pub flag_first : (m n : ℕ) (xs : List ℕ) (others : List (List ℕ)) → has m (flagged n (xs ∷ others)) ≡ ((eqb m n && are_runs xs) || has m (flagged (n + 1) others))
 unfolding flagged
 flag_first m n xs others = by_case (are_runs xs)
   where
@@ -83,7 +83,7 @@ measures_more all left later key xs containers bytes containers' bytes' count ru
           ∙ ap (λ (ps : List (ℕ × List ℕ)). has_bit flags m || has m (flagged containers (lists ps))) (sym is) ∙ so.flags_are m;
     }
 
-or_none : (b : Bool) → (b || false) ≡ b
+pub or_none : (b : Bool) → (b || false) ≡ b
 or_none true = refl
 or_none false = refl
 
@@ -108,7 +108,7 @@ module _ (all left : List (ℕ × List ℕ)) (containers bytes : ℕ) (runs : Bo
 
 -- ---- how many bytes all have
 
-entries_len : (ps : List (ℕ × List ℕ)) → length (entries ps) ≡ 4 * length ps
+pub entries_len : (ps : List (ℕ × List ℕ)) → length (entries ps) ≡ 4 * length ps
 entries_len [] = refl
 entries_len (p ∷ ps) =
     let ih : length (entries ps) ≡ 4 * length ps = entries_len ps in
@@ -118,12 +118,12 @@ entries_len (p ∷ ps) =
     let b = little_len 2 (length p.1 - 1) in
     omega arith
 
-starts_len : (start : ℕ) (sizes : List ℕ) → length (starts start sizes) ≡ length sizes
+pub starts_len : (start : ℕ) (sizes : List ℕ) → length (starts start sizes) ≡ length sizes
 unfolding starts
 starts_len start [] = refl
 starts_len start (size ∷ sizes) = let ih = starts_len (start + size) sizes in omega arith
 
-cookie_len : (all : List (List ℕ)) → length (cookie all) ≡ cond (list_any are_runs all) (4 + (length all + 7) / 8) 8
+pub cookie_len : (all : List (List ℕ)) → length (cookie all) ≡ cond (list_any are_runs all) (4 + (length all + 7) / 8) 8
 unfolding cookie
 cookie_len all = by_case (list_any are_runs all)
   where

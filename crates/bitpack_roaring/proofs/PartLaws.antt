@@ -11,11 +11,12 @@ use Rattle.bitpack_slices.specs.Slices.{quads_of}
 use Rattle.bitpack_sets.specs.Chunks.{first_key, ids_from, lows_between, positions}
 use Rattle.bitpack_sets.specs.Directory.{chunk_at, ids_of_chunks, key_at}
 use Rattle.bitpack_roaring.proofs.HeadLaws.{two_small}
-use Rattle.bitpack_sets.proofs.ForCallers.{between_array, between_chunk, from_array, from_chunks, ids_are_read, positions_array, positions_chunks}
+use Rattle.bitpack_sets.proofs.ForCallers.{between_array, between_chunk, from_array, from_chunks, ids_are_read, lows_raised, positions_array, positions_chunks, raised_chunk}
 use Rattle.bitpack_sets.specs.Opened.{ids}
+use Rattle.bitpack_sets.specs.Written.{IsChunk, lows}
 use Rattle.bitpack_sets.specs.declared.chunks.Chunks.{Chunks}
 use Rattle.bitpack_sets.specs.declared.id_set.IdSet.{IdSet}
-use Rattle.bitpack_roaring.specs.inner.Walks.{IsAt, IsPart}
+use Rattle.bitpack_roaring.specs.inner.Walks.{IsAt, IsPart, numbers_of_part}
 use Rattle.bitpack_roaring.specs.declared.parts.Part.{Part}
 
 -- ---- lists that rise
@@ -54,7 +55,7 @@ drop_front : (xs ys : List ℕ) → drop (length xs) (xs ++ ys) ≡ ys
 drop_front [] ys = refl
 drop_front (x ∷ xs) ys = drop_front xs ys
 
-take_front : (n : ℕ) (xs ys : List ℕ) → n ≡ length xs → take n (xs ++ ys) ≡ xs
+pub take_front : (n : ℕ) (xs ys : List ℕ) → n ≡ length xs → take n (xs ++ ys) ≡ xs
 take_front n xs ys e = take-append-le n xs ys (omega arith) ∙ take_all n xs (omega arith)
 
 -- ---- the ids of a chunk, and those after it
@@ -257,15 +258,22 @@ pub no_parts : (set : Chunks) (p : ℕ) → positions set ≤ p → parts 65536 
 unfolding parts
 no_parts set p past = ap (parts 65536) (none_left set p past)
 
--- the ids of a chunk are copied
-pub copied : (all new old xs : List ℕ) (from count result key : ℕ) → length old ≡ count → result ≡ min (length old) (length all - from) → take result new ≡ take result (drop from all)
-    → drop result new ≡ drop result old → from + count ≤ length all → take count (drop from all) ≡ map (λ x. key * 65536 + x) xs → new ≡ map (λ x. key * 65536 + x) xs
-copied all new old xs from count result key long is front rest room own =
+-- as many ids are copied as there is room for
+pub copied : (all new old : List ℕ) (from count result : ℕ) → length old ≡ count → result ≡ min (length old) (length all - from) → take result new ≡ take result (drop from all)
+    → drop result new ≡ drop result old → from + count ≤ length all → new ≡ take count (drop from all)
+copied all new old from count result long is front rest room =
     let same : result ≡ count = omega arith in
     let a = length-drop result new in
     let b = length-drop result old in
     let e = ap length rest in
-    sym (take_all result new (omega arith)) ∙ front ∙ ap (λ (n : ℕ). take n (drop from all)) same ∙ own
+    sym (take_all result new (omega arith)) ∙ front ∙ ap (λ (n : ℕ). take n (drop from all)) same
+
+-- their low 16 bits are the numbers of the chunk, and they share a key
+pub own_lows : (ids own : List ℕ) (set : Chunks) (part : Part) → IsPart ids set part → own ≡ take part.count (drop part.from ids) → lows own ≡ numbers_of_part set part
+own_lows ids own set part is same = ap lows (same ∙ is.ids_are) ∙ lows_raised part.key 0 _ is.rising
+
+pub own_chunk : (ids own : List ℕ) (set : Chunks) (part : Part) → IsPart ids set part → own ≡ take part.count (drop part.from ids) → IsChunk own
+own_chunk ids own set part is same = subst IsChunk (sym (same ∙ is.ids_are)) (raised_chunk part.key _ is.key is.rising)
 
 pub bounds_few : (xs : List ℕ) → IsRising 0 65536 xs → length (boundaries xs) ≤ 65536
 bounds_few xs r = let room = rising_room 0 65536 (boundaries xs) (bounds_rise xs r) in omega arith

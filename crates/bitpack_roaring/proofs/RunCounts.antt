@@ -7,13 +7,9 @@ use Rattle.bitpack_groups.proofs.ForCallers.{little_len}
 use Rattle.bitpack_slices.proofs.ForCallers.{bounds_rise, flat_len, rising_room}
 use Rattle.bitpack_slices.specs.Bodies.{IsRising, bits, le_bytes}
 use Rattle.bitpack_slices.specs.Runs.{boundaries, bounds_after}
+use Rattle.bitpack_roaring.proofs.BetweenLaws.{between_len}
+use Rattle.bitpack_roaring.specs.inner.Runs.{run_bytes, runs_between}
 use Rattle.bitpack_roaring.specs.Written.{are_runs, container, runs_of, with_first}
-
--- the runs between boundaries
-unfoldable pub runs_between : List ℕ → List (ℕ × ℕ)
-runs_between [] = []
-runs_between (begin ∷ []) = (begin, 65535 - begin) ∷ []
-runs_between (begin ∷ end ∷ bounds) = (begin, end - begin - 1) ∷ runs_between bounds
 
 -- a number before a run that follows at once
 joined : (x : ℕ) (bounds : List ℕ) → IsRising (x + 2) 65536 bounds → x + 1 < 65536 → with_first x (runs_between ((x + 1) ∷ bounds)) ≡ runs_between (x ∷ bounds)
@@ -87,12 +83,6 @@ pub runs_bounds : (xs : List ℕ) → IsRising 0 65536 xs → runs_of xs ≡ run
 unfolding boundaries
 runs_bounds [] r = no_runs
 runs_bounds (x ∷ xs) (a, r) = let room = rising_room (x + 1) 65536 xs r in runs_are x xs (omega arith) r
-
-between_len : (bounds : List ℕ) → length (runs_between bounds) ≡ (length bounds + 1) / 2
-unfolding runs_between
-between_len [] = refl
-between_len (begin ∷ []) = refl
-between_len (begin ∷ end ∷ bounds) = let ih = between_len bounds in omega arith
 
 pub runs_counted : (xs : List ℕ) → IsRising 0 65536 xs → length (runs_of xs) ≡ (length (boundaries xs) + 1) / 2
 runs_counted xs r = ap length (runs_bounds xs r) ∙ between_len (boundaries xs)

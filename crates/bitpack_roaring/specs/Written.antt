@@ -1,5 +1,5 @@
 -- The bytes of a bitmap in Roaring's portable format, with the forms of containers that CRoaring writes after `roaring_bitmap_run_optimize`.
-use Rattle.std.specs.Prelude.{ℕ, ◌+◌, ◌-◌, ◌*◌, ◌/◌, ◌^◌, ◌==◌, ◌&&◌, nat_lt, nat_le, if◌then◌else◌, Bool, List, [], ◌∷◌, ◌++◌, map, length}
+use Rattle.std.specs.Prelude.{◌≡◌, ℕ, ◌+◌, ◌-◌, ◌*◌, ◌/◌, ◌^◌, ◌<◌, ◌≤◌, ◌==◌, ◌&&◌, nat_lt, nat_le, if◌then◌else◌, Bool, List, [], ◌∷◌, ◌++◌, map, length, drop}
 use Rattle.std.specs.List.{concat, flat_map, list_any}
 use Rattle.bitpack_slices.specs.Bodies.{bits, le_bytes, parts}
 
@@ -49,3 +49,9 @@ roaring ids =
     let bodies = map container all in
     let offsets = flat_map (le_bytes 4) (starts (length head + 4 * length chunks) (map length bodies)) in
     head ++ (if list_any are_runs all && nat_lt (length chunks) 4 then [] else offsets) ++ concat bodies
+
+-- the bitmap of ids is written if there is room for it; otherwise nothing changes
+pub record WritesBitmap (ids : List ℕ) (result : ℕ) (old new : List ℕ) : Type 0 where
+  pub len : result ≡ length (roaring ids)
+  pub written : result ≤ length old → new ≡ roaring ids ++ drop result old
+  pub short : length old < result → new ≡ old

@@ -1,4 +1,5 @@
 -- What serves inner contracts.
 pub mod Heads
+pub mod Runs
 pub mod Sizes
 pub mod Walks

@@ -12,6 +12,7 @@ ghost use Rattle.bitpack_roaring.specs.Written.{flagged, runs_of};
 ghost use Rattle.bitpack_roaring.specs.inner.Sizes.{bodies, has_run, lists};
 ghost use Rattle.bitpack_roaring.specs.inner.Walks.{IsPart, numbers_of_part};
 
+use crate::bodies::copy_ids;
 use crate::changes::count_runs;
 use crate::head::LONGEST_ARRAY;
 use crate::measured::Measured;
@@ -65,7 +66,7 @@ fn count_runs_in(
 {
     if part.count <= LONGEST_ARRAY {
         let own = &mut list[..part.count];
-        set.copy_range(part.from, own);
+        copy_ids(set, part, own);
         return (count_in_ids(own) + 1) / 2;
     }
     load_numbers(chunks, part, words);
@@ -73,7 +74,7 @@ fn count_runs_in(
 }
 
 /// Loads the numbers of a chunk into a bitmap.
-fn load_numbers(chunks: &Chunks, part: Part, words: &mut [u64; 1024])
+pub(crate) fn load_numbers(chunks: &Chunks, part: Part, words: &mut [u64; 1024])
     requires within { (part.begin ≤ part.end) × (part.end ≤ positions chunks.now) }
     requires one { chunks.now.count ≢ 0 → part.end ≤ part.begin + 1 }
     ensures { (x : ℕ) → x < 65536 → has_bit words.new x ≡ has x (numbers_of_part chunks.now part) }

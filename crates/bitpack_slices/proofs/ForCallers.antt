@@ -5,7 +5,9 @@ pub use Rattle.bitpack_slices.proofs.lemmas.bits.BitmapLaws.{has_more, has_part,
 pub use Rattle.bitpack_slices.proofs.lemmas.bodies.JoinLaws.{AreParts, below_top, build_are, build_highs, join, numbers_built}
 unfoldable pub use Rattle.bitpack_slices.proofs.lemmas.bodies.JoinLaws.{build}
 pub use Rattle.bitpack_slices.proofs.lemmas.bodies.BodyFaults.{fault_of_blocks, fault_of_numbers, fault_of_runs, of_numbers}
+pub use Rattle.bitpack_slices.proofs.lemmas.bits.ByteLaws.{bytes_cat}
 pub use Rattle.bitpack_slices.proofs.lemmas.bytes.Bytes.{EachByte, byte_of}
+pub use Rattle.bitpack_slices.proofs.lemmas.bodies.ChangeLaws.{IsWordOf, before, bounds_those, changes, changes_carry, changes_word}
 pub use Rattle.bitpack_slices.proofs.lemmas.bits.CombineLaws.{apply_none}
 pub use Rattle.bitpack_slices.proofs.lemmas.bits.CountLaws.{bytes_are, few_numbers, full_rise, some_numbers}
 pub use Rattle.bitpack_slices.proofs.lemmas.bodies.CutLaws.{counts_len}

@@ -38,7 +38,7 @@ fn ones_in(word: u64) -> usize
 
 /// The highest bit of a word.
 #[inline(always)]
-fn highest_bit(word: u64) -> u64
+pub fn highest_bit(word: u64) -> u64
     ensures { result ≡ bit_at word 63 }
 {
     word >> 63

@@ -10,7 +10,7 @@ ghost use Rattle.std.specs.Prelude.{◌≡◌, ℕ, ◌+◌, ◌-◌, ◌*◌, �
 ghost use Rattle.std.specs.Int.{bit_at};
 ghost use Rattle.std.specs.List.{flat_map};
 ghost use Rattle.bitpack_slices.specs.Bitmaps.{has_bit, high_lows};
-ghost use Rattle.bitpack_slices.specs.Bodies.{IsRising, blocks, slice};
+ghost use Rattle.bitpack_slices.specs.Bodies.{IsRising, bits, blocks, le_bytes, slice};
 ghost use Rattle.bitpack_slices.specs.Operations.{those};
 ghost use Rattle.bitpack_slices.specs.Slices.{ones_from, slice_len};
 
@@ -229,20 +229,18 @@ pub(crate) fn put_slice(bits: &[u64], count: usize, out: &mut [u8])
     if count < 32 {
         put_last(bits, count, out);
     } else if count < 256 {
-        put_words(bits, out);
+        write_words(bits, out);
     }
 }
 
-/// Writes the bytes of four words.
+/// Writes the bytes of words, the lowest first.
 #[inline(always)]
-fn put_words(bits: &[u64], out: &mut [u8])
-    requires bits { length bits.now ≡ 4 }
-    requires count { (32 ≤ length (those 256 (has_bit bits.now))) × (length (those 256 (has_bit bits.now)) < 256) }
-    requires size { length out.old ≡ 32 }
-    ensures { out.new ≡ slice (those 256 (has_bit bits.now)) }
+pub fn write_words(words: &[u64], out: &mut [u8])
+    requires { length out.old ≡ 8 * length words.now }
+    ensures { out.new ≡ le_bytes (8 * length words.now) (bits (those (64 * length words.now) (has_bit words.now))) }
 {
-    for i in 0..4 {
-        out[8 * i..8 * i + 8].copy_from_slice(&bits[i].to_le_bytes());
+    for index in 0..words.len() {
+        out[8 * index..8 * index + 8].copy_from_slice(&words[index].to_le_bytes());
     }
 }
 

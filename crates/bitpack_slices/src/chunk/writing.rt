@@ -40,7 +40,7 @@ pub fn write_bounds(bounds: &[u32], out: &mut [u8])
 }
 
 /// Fills in the boundaries of the low 16 bits of increasing ids of one chunk.
-fn fill_bounds(ids: &[u32], bounds: &mut [u32])
+pub fn fill_bounds(ids: &[u32], bounds: &mut [u32])
     requires rising { IsRising 0 65536 (map (λ id. id % 65536) ids.now) }
     requires shared { (k : ℕ) → k < length ids.now → slice_index ids.now k / 65536 ≡ slice_index ids.now 0 / 65536 }
     requires some { 0 < length ids.now }

@@ -1,18 +1,14 @@
--- The numbers of all high bytes.
-use Rattle.std.proofs.Common.{◌+◌, ◌∙◌, ◌++◌, List, ℕ, ap, arith, length, map, subst, sym, take}
-use Rattle.bitpack_slices.proofs.ForCallers.{range_rise}
-use Rattle.bitpack_slices.specs.Bodies.{IsRising}
-use Rattle.bitpack_roaring.proofs.BitLaws.{all_numbers}
+-- The bits of the bytes.
+use Rattle.std.proofs.Common.{◌+◌, ◌∙◌, ◌++◌, List, ℕ, ap, arith, length, map, take}
+use Rattle.bitpack_roaring.proofs.BitLaws.{bits_are}
 use Rattle.bitpack_roaring.proofs.bits.unpack_bits.Goals as goal
 
-pub unpack_bitmap-requires-clause-highs : goal.unpack_bitmap-requires-clause-highs
-unpack_bitmap-requires-clause-highs c = subst (IsRising 0 256) (sym c.fill_range.ensures) (range_rise 0 256)
-
-pub unpack_bitmap-requires-clause-room : goal.unpack_bitmap-requires-clause-room
-unpack_bitmap-requires-clause-room c = let long = ap length (all_numbers c.args.body.now c.load_bits.new.words c.fill_range.new.out c.fill_range.ensures c.load_bits.ensures) in omega (arith, c.requires.room)
+pub unpack_words-requires-clause-room : goal.unpack_words-requires-clause-room
+unpack_words-requires-clause-room c = let long = ap length (bits_are c.args.body.now c.load_bits.new.words c.load_bits.ensures) in omega (arith, c.requires.room)
 
 pub returns-clause-end : goal.returns-clause-end
-returns-clause-end c = c.unpack_bitmap.ensures.end ∙ ap (λ (l : List ℕ). c.args.at + length l) (all_numbers c.args.body.now c.load_bits.new.words c.fill_range.new.out c.fill_range.ensures c.load_bits.ensures)
+returns-clause-end c = c.unpack_words.ensures.end ∙ ap (λ (l : List ℕ). c.args.at + length l) (bits_are c.args.body.now c.load_bits.new.words c.load_bits.ensures)
 
 pub returns-clause-values : goal.returns-clause-values
-returns-clause-values c = c.unpack_bitmap.ensures.values ∙ ap (λ (l : List ℕ). take c.args.at c.args.out.now ++ map (λ i. c.args.base + i) l) (all_numbers c.args.body.now c.load_bits.new.words c.fill_range.new.out c.fill_range.ensures c.load_bits.ensures)
+returns-clause-values c =
+    c.unpack_words.ensures.values ∙ ap (λ (l : List ℕ). take c.args.at c.args.out.now ++ map (λ i. c.args.base + i) l) (bits_are c.args.body.now c.load_bits.new.words c.load_bits.ensures)

@@ -11,9 +11,9 @@ use Rattle.bitpack_slices.proofs.lemmas.bits.OnesLaws.{ones_all}
 use Rattle.bitpack_slices.proofs.lemmas.bits.RaisedLaws.{bits_append, bits_raised}
 use Rattle.bitpack_slices.proofs.lemmas.bits.RowLaws.{window_taken}
 use Rattle.bitpack_slices.proofs.lemmas.bodies.LoadLaws.{those_rise}
-use Rattle.bitpack_slices.proofs.lemmas.slices.SliceLaws.{bits_room, slice_some}
+use Rattle.bitpack_slices.proofs.lemmas.slices.SliceLaws.{bits_room}
 use Rattle.bitpack_slices.specs.Bitmaps.{has_bit}
-use Rattle.bitpack_slices.specs.Bodies.{bits, le_bytes, slice}
+use Rattle.bitpack_slices.specs.Bodies.{bits, le_bytes}
 use Rattle.bitpack_slices.specs.Operations.{those}
 use Rattle.bitpack_slices.specs.Slices.{ones_from}
 
@@ -61,7 +61,7 @@ next_power k = let e : 8 * suc k ≡ 8 * k + 8 = omega arith in ap (λ (n : ℕ)
 ring : (w p : ℕ) → w * (p * 256) ≡ 256 * (w * p)
 ring w p = grind arith
 
-bytes_cat : (m n x w : ℕ) → x < 2 ^ (8 * m) → le_bytes (m + n) (x + w * 2 ^ (8 * m)) ≡ le_bytes m x ++ le_bytes n w
+pub bytes_cat : (m n x w : ℕ) → x < 2 ^ (8 * m) → le_bytes (m + n) (x + w * 2 ^ (8 * m)) ≡ le_bytes m x ++ le_bytes n w
 unfolding le_bytes
 bytes_cat zero n x w h =
     let e : zero + n ≡ n = omega arith in
@@ -121,8 +121,7 @@ word_bytes words out new q size small room is before =
     ∙ ap (le_bytes (8 * (q + 1))) (sym (bits_word words q small))
 
 -- all are written
-pub words_done : (words out : List ℕ) (q : ℕ) → q ≡ 4 → length out ≡ 32 → 32 ≤ length (those 256 (has_bit words)) → length (those 256 (has_bit words)) < 256
-    → take (8 * q) out ≡ le_bytes (8 * q) (bits (those (64 * q) (has_bit words))) → out ≡ slice (those 256 (has_bit words))
-words_done words out q e size more some is =
-    let whole : take 32 out ≡ le_bytes 32 (bits (those 256 (has_bit words))) = subst (λ (n : ℕ). take (8 * n) out ≡ le_bytes (8 * n) (bits (those (64 * n) (has_bit words)))) e is in
-    sym (take_all 32 out (omega arith)) ∙ whole ∙ sym (slice_some (those 256 (has_bit words)) more some)
+pub words_done : (words out : List ℕ) (q : ℕ) → q ≡ length words → length out ≡ 8 * length words → take (8 * q) out ≡ le_bytes (8 * q) (bits (those (64 * q) (has_bit words)))
+    → out ≡ le_bytes (8 * length words) (bits (those (64 * length words) (has_bit words)))
+words_done words out q e size is =
+    sym (take_all (8 * q) out (omega arith)) ∙ is ∙ ap (λ (n : ℕ). le_bytes (8 * n) (bits (those (64 * n) (has_bit words)))) e
