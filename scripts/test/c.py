@@ -83,14 +83,15 @@ PROGRAMS = {
     RANDOM: "340 cases\n",
     PAGES: "all calls\n",
 }
-# By hand: 9 and 300 are in both sets; of 7, 9, 10, 11 and 300 the range takes 10 and 11. Three ids below 128 are byte 0, the first as a number, and a
-# group of 2 codes, 1 and 290: a byte with their width 9, and 18 bits.
+# By hand: 9 and 300 are in both sets; of 7, 9, 10, 11 and 300 the range takes 10 and 11. 0 to 9 and 300 are byte 0, the first id as a number, and a group
+# of ten codes, nine 0 and 290: a byte with their width 9, and 90 bits.
 IN_CPP = {
     "examples/id_set.cpp": """\
 in both: 9
 in both: 300
 3 ids, without 11, first after 9: 300
-6 bytes, the same set
+9 ids below 9, 11 in all
+15 bytes, the same set
 Bytes are missing.
 """,
     SETS: "all calls\n",
