@@ -235,7 +235,7 @@ static void by_hand()
 int main()
 {
     by_hand();
-    for (int turn = 0; turn < 100 && failed == 0; turn++) {
+    for (int turn = 0; turn < 60 && failed == 0; turn++) {
         const ids one = any(), other = any();
         const id_set set(one.begin(), one.end());
         is(set, one);
