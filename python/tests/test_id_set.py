@@ -127,6 +127,7 @@ def test_reading(ids, data):
     some = ids.tolist() or [7]
     low, high = sorted([data.draw(st.integers(-5, MOST + 5)), data.draw(st.sampled_from(some))])
     assert packed.range(low, high).tolist() == ids[(ids >= low) & (ids < high)].tolist() and packed.range(high + 1, low).size == 0
+    assert packed.count_between(low, high) == ((ids >= low) & (ids <= high)).sum() and packed.count_between(high + 1, low) == 0
     for target in (low, low + 1, high, high + 1):
         at = int(np.searchsorted(ids, target))
         assert (target in packed) == (target in known) and packed.rank(target) == at

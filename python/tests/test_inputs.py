@@ -219,6 +219,8 @@ def test_no_number(wrong):
     for call in [
         *([SET.seek, SET.rank] if not isinstance(wrong, list) else []),
         lambda it: SET.range(it, 9),
+        lambda it: SET.count_between(it, 9),
+        lambda it: SET.count_between(0, it),
         lambda it: SET.range(0, it),
         SET.__getitem__,
         COLUMN.__getitem__,

@@ -36,6 +36,7 @@
 
 mod builder;
 mod combining;
+mod comparing;
 mod cursor;
 mod in_place;
 mod iter;
@@ -61,8 +62,9 @@ pub use builder::SetBuilder;
 pub use cursor::{Cursor, SetCursor};
 pub use iter::{IntoIter, Iter};
 pub use many::{
-    intersect_all, intersect_all_into, intersect_all_len, subtract_all, subtract_all_into, subtract_all_len, unite_all,
-    unite_all_into, unite_all_len,
+    intersect_all, intersect_all_into, intersect_all_len, subtract_all, subtract_all_into, subtract_all_len,
+    symmetric_difference_all, symmetric_difference_all_into, symmetric_difference_all_len, unite_all, unite_all_into,
+    unite_all_len,
 };
 pub use opening::{OpenError, open_many};
 pub use packing::{pack_into, pack_to, packed_len};
@@ -138,6 +140,19 @@ buffer! {
     /// cloned(&IdSetBuf::open(Mapping(vec![0x80])).unwrap());
     /// ```
     IdSetBuf
+}
+
+impl IdSetBuf {
+    /// Returns the set without ids.
+    ///
+    /// ```
+    /// use bitpacking::set::IdSetBuf;
+    ///
+    /// assert!(IdSetBuf::new().is_empty());
+    /// ```
+    pub fn new() -> IdSetBuf {
+        IdSetBuf::default()
+    }
 }
 
 impl<B: StableBytes> IdSetBuf<B> {

@@ -2,7 +2,7 @@
 """Installs the library for C under a folder, PREFIX, for programs that ask `pkg-config --cflags --libs bitpacking`, and for CMake's
 `find_package(bitpacking CONFIG)`:
 
-    install.py PREFIX [--level LEVEL] [--from cargo]    include/bitpacking.h, lib/libbitpacking.a, a shared library with the link
+    install.py PREFIX [--level LEVEL] [--from cargo]    include/bitpacking.h and .hpp, lib/libbitpacking.a, a shared library with the link
                                                         lib/libbitpacking.so, lib/pkgconfig/bitpacking.pc, and lib/cmake/bitpacking/
     install.py PREFIX --remove                          takes away what it wrote there, with the folders that it made
 
@@ -32,7 +32,8 @@ import by_cargo
 import choosing
 
 CC = os.environ.get("CC", "cc")
-HEADER, STATIC, LINK = "include/bitpacking.h", "lib/libbitpacking.a", "lib/libbitpacking.so"
+HEADERS = ["include/bitpacking.h", "include/bitpacking.hpp"]
+STATIC, LINK = "lib/libbitpacking.a", "lib/libbitpacking.so"
 ASKED, NAMES = "lib/pkgconfig/bitpacking.pc", "share/bitpacking/installed"
 CMAKE, CMAKE_VERSION = (f"lib/cmake/bitpacking/bitpackingConfig{it}.cmake" for it in ("", "Version"))
 SYMBOLS = "c/symbols.c"
@@ -111,7 +112,8 @@ def install(prefix, archive, by_rustc=False):
     file cannot be written, those before it are taken away again."""
     root, library = placed(prefix), shared_library()
     with tempfile.TemporaryDirectory(prefix="install-") as folder:
-        copies, texts = {HEADER: f"{ROOT}/{HEADER}", STATIC: archive, library: linked(archive, folder)}, told(prefix, by_rustc)
+        copies, texts = {it: f"{ROOT}/{it}" for it in HEADERS}, told(prefix, by_rustc)
+        copies |= {STATIC: archive, library: linked(archive, folder)}
         if os.path.exists(f"{root}/{NAMES}"):
             remove(prefix)
         files, made = [*copies, LINK, *texts, NAMES], []

@@ -9,7 +9,7 @@ import sys
 sys.path.insert(1, f"{sys.path[0]}/..")
 from texts import PAGES, paths, prose, results, text_of
 
-SOURCES = ["crates/*/src/**/*.rt", "rust/src/**/*.rs", "include/*.h", "crates/*/specs/**/*.antt"]
+SOURCES = ["crates/*/src/**/*.rt", "rust/src/**/*.rs", "include/*.h*", "crates/*/specs/**/*.antt"]
 # *Where* is for places: not after a comma, at the start of a sentence, or with words after or before it that no place has.
 WHERE = [
     r"[,;] where\b(?! \S+ \S+ (?:lie|start|begin|end)s?\b)",
@@ -40,7 +40,7 @@ def said(path, text):
     """By line what a file says, and nothing that is code. What is apart from the words before it begins with a mark."""
     if path.endswith(".md"):
         return [re.sub(r"^\s*(?:[-*#]+|\d+\.) |^$", "¶ ", line.replace("|", "¶")) for line in prose(text).split("\n")]
-    if path.endswith(".h"):
+    if path.endswith((".h", ".hpp")):
         text = re.sub(r"(?s)(?:\A|\*/).*?(?:/\*|\Z)", lambda it: re.sub(r"[^\n]", "", it[0]) + "//", text)
         return [re.sub(r"^[^\n]*?//\s*|^$", "¶ ", line) if "//" in line or not line else line.lstrip(" *") for line in text.split("\n")]
     mark = r"(?:^|\s)--(?:\s+-+)?\s(.*)" if path.endswith(".antt") else r"(?:^|\s)//[/!]?(?:\s(.*)|$)"

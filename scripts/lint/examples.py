@@ -1,7 +1,7 @@
 #!/usr/bin/env python3
 """Compares the examples of the pages and of doc comments with the proved and tested code that they come from.
 
-Above each fenced block of Rust, of C, or of antt, the language of proofs, a comment names its file, one of `SOURCES`, and above one of SQL or of a
+Above each fenced block of Rust, of C, of C++, or of antt, the language of proofs, a comment names its file, one of `SOURCES`, and above one of SQL or of a
 shell (console) the page whose commands are run:
     <!-- crates/bitpack_uses/src/NAME.rt -->
 The lines of the block are lines of that file, in one piece; only the indentation of the whole block may differ. The README of a crate quotes
@@ -17,7 +17,7 @@ sys.path.insert(1, f"{sys.path[0]}/..")
 from texts import PAGES, at, paths, results, text_of
 
 RUST = r"crates/bitpack_uses/src/.*\.rt|rust/examples/.*\.rs"
-SOURCES = {"rust": RUST, "rs": RUST, "antt": r"crates/bitpack_uses/proofs/.*\.antt", "c": r"examples/.*\.c"}
+SOURCES = {"rust": RUST, "rs": RUST, "antt": r"crates/bitpack_uses/proofs/.*\.antt", "c": r"examples/.*\.c", "cpp": r"examples/.*\.cpp"}
 SOURCES |= {"sql": r"docs/(?:POSTGRES|SQLITE)\.md", "console": r"examples/numbers/README\.md"}
 # A block, with the last line of text before it. The language of one in a comment of code is Rust.
 BLOCK = re.compile(r"(?ms)^([^\n]*)\n\s*^( *)(```+|~~~+) *(\w*)[^\n]*\n(.*?)^ *\3[^\n]*$")

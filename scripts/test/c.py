@@ -3,7 +3,7 @@
 worked by hand, calls.c, ranking.c and pages.c, id_sets.c, bitmaps.c and columns.c over the tables of vectors/, and cases.c, random cases. They are
 C99 with every warning an error, run with little stack, and once more with the address sanitizer. calls.c is also C++11 and C++17. In qemu all run
 on aarch64, those that read no table on an x86-64 of each level, and three over the Rust crate on aarch64. The header has no warning of gcc or
-clang, from C99 to C23 and from C++11 to C++20, for 64 and 32 bits.
+clang, from C99 to C23 and from C++11 to C++20, for 64 and 32 bits; bitpacking.hpp has none from C++17 to C++23, and runs the example and sets.cpp.
 
 A part that lacks a tool is left out, and named.
 """
@@ -32,6 +32,7 @@ COLUMN_TABLES = "scripts/test/columns.c"
 RANKING = "scripts/test/ranking.c"
 RANDOM = "scripts/test/cases.c"
 PAGES = "scripts/test/pages.c"
+SETS = "scripts/test/sets.cpp"
 STACK = 256 << 10  # bytes; the sanitizer needs more
 SANITIZED = ["-fsanitize=address,undefined", "-fno-sanitize-recover=all"]
 # What each compiler is asked for the header, and by language.
@@ -82,6 +83,19 @@ PROGRAMS = {
     RANDOM: "340 cases\n",
     PAGES: "all calls\n",
 }
+# By hand: 9 and 300 are in both sets; of 7, 9, 10, 11 and 300 the range takes 10 and 11. 0 to 9 and 300 are byte 0, the first id as a number, and a group
+# of ten codes, nine 0 and 290: a byte with their width 9, and 90 bits.
+IN_CPP = {
+    "examples/id_set.cpp": """\
+in both: 9
+in both: 300
+3 ids, without 11, first after 9: 300
+9 ids below 9, 11 in all
+15 bytes, the same set
+Bytes are missing.
+""",
+    SETS: "all calls\n",
+}
 VECTORS = {
     ID_SETS: ["id_sets", "refused_id_sets", "combined_id_sets"],
     BITMAPS: ["bitmaps", "refused_bitmaps"],
@@ -101,12 +115,12 @@ def with_little_stack():
 
 
 def compiled_and_run(path, compiler, *library, runner=(), top=ROOT, **more):
-    """What is wrong with a program over a library, or None: it has to print what PROGRAMS says. The words of the compiler come before it,
-    and those that link the library after it. More is for running it."""
+    """What is wrong with a program over a library, or None: it has to print what PROGRAMS or IN_CPP says. The words of the compiler come
+    before it, and those that link the library after it. More is for running it."""
     given = {"input": "".join(source(f"vectors/{table}.tsv") for table in VECTORS.get(path, []))}
     with tempfile.TemporaryDirectory(prefix="c-") as folder:
         built = run(*compiler, f"{top}/{path}", "-x", "none", *library, "-o", f"{folder}/program")
-        return failed(built) or printed(run(*runner, f"{folder}/program", **given, **more), PROGRAMS[path])
+        return failed(built) or printed(run(*runner, f"{folder}/program", **given, **more), (PROGRAMS | IN_CPP)[path])
 
 
 def places():
@@ -147,6 +161,13 @@ def on_other_processors():
             yield f"{program} over the Rust crate on aarch64", why
 
 
+def plainly(program):
+    """The words that compile a program, or none if there is no compiler for it."""
+    if program.endswith(".c"):
+        return ["cc", "-std=c99"]
+    return ["c++", "-std=c++17"] if shutil.which("c++") else []
+
+
 def uses():
     """A program in C and C++ that uses each macro of the header. Its structs begin as they do in a program of a user."""
     macros = re.findall(r"^#define (BITPACKING_\w+)(\(\w+\))? ", source("include/bitpacking.h"), re.M)
@@ -171,20 +192,39 @@ def headers():
             yield f"the header with {compiler} {bits}", "\n".join(filter(None, said)) or None
 
 
+def in_cpp():
+    """bitpacking.hpp with each compiler, and the programs over it: each as a name and what is wrong, or None."""
+    library = f"{archives.OUT}/{archives.ALL}"
+    for compiler in [it for it in COMPILERS["c++"] if shutil.which(it)]:
+        warned = [compiler, *[it for it in WARNINGS if it != "-fsyntax-only"], *WARNINGS_OF["c++"], f"-I{ROOT}/include"]
+        for standard in ["c++17", "c++20", "c++2b"]:
+            yield f"bitpacking.hpp as {standard} with {compiler}", failed(
+                run(*warned, f"-std={standard}", "-fsyntax-only", f"{ROOT}/{SETS}")
+            )
+        for program in IN_CPP:
+            yield f"{program} with {compiler}", compiled_and_run(program, [*warned, "-std=c++17"], library)
+    for program in IN_CPP if shutil.which("c++") and has_sanitizers() else []:
+        yield f"{program}, sanitized", compiled_and_run(program, ["c++", "-std=c++17", *STRICT, *SANITIZED], library)
+    if shutil.which("c++"):
+        program = "examples/id_set.cpp"
+        yield f"{program} without exceptions", compiled_and_run(program, ["c++", "-std=c++17", "-fno-exceptions", *STRICT], library)
+
+
 def checks():
     """Each check as a name and what is wrong, or None."""
     yield from headers()
-    in_cpp = shutil.which("c++")
+    yield from in_cpp()
+    has_cpp = shutil.which("c++")
     if not has_sanitizers():
         leave_out("the C programs under the address sanitizer", "which cc does not have here")
-    if not in_cpp:
+    if not has_cpp:
         leave_out(f"{CALLS} as C++", "since there is no c++")
     for level, archive in places():
         for program in PROGRAMS:
             yield f"{program} at {level}", compiled_and_run(program, C99, archive, preexec_fn=with_little_stack)
             if has_sanitizers():
                 yield f"{program} at {level}, sanitized", compiled_and_run(program, [*C99, *SANITIZED], archive)
-        for standard in ["c++11", "c++17"] if in_cpp else []:
+        for standard in ["c++11", "c++17"] if has_cpp else []:
             compiler = ["c++", f"-std={standard}", *STRICT, "-x", "c++"]
             yield f"{CALLS} as {standard} at {level}", compiled_and_run(CALLS, compiler, archive)
     yield from on_other_processors()

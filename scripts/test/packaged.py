@@ -31,7 +31,7 @@ import release
 import rust
 import unproved
 
-EXAMPLES = [it for it in c.PROGRAMS if it.startswith("examples/")]
+EXAMPLES = [it for it in c.PROGRAMS | c.IN_CPP if it.startswith("examples/") and c.plainly(it)]
 PROCESSOR = "x86_64"
 # The function that the header has only as `static inline`, and that has a symbol for other languages.
 INLINE = ["bitpacking_error_text"]
@@ -93,7 +93,7 @@ def by_pkg_config(prefix, compiler):
         yield f"pkg-config {asked}", other(run("pkg-config", asked, "bitpacking", env=env).stdout, f"{wanted}\n")
     words = run("pkg-config", "--cflags", "--libs", "bitpacking", env=env).stdout.split()
     shared = dict(os.environ, LD_LIBRARY_PATH=f"{prefix}/lib")
-    yield from ((f"{it} by pkg-config", c.compiled_and_run(it, ["cc", "-std=c99"], *words, env=shared)) for it in c.PROGRAMS)
+    yield from ((f"{it} by pkg-config", c.compiled_and_run(it, c.plainly(it), *words, env=shared)) for it in {*c.PROGRAMS, *EXAMPLES})
 
 
 def refused(prefix, *words, **more):
@@ -196,7 +196,7 @@ def installed(folder, *words):
     yield "an installation that fails half-way", refused(prefix, *words)
     os.remove(f"{prefix}/share")
     before, done = listed(prefix), by_script(prefix, *words)
-    said = f"installed version {version()}{by} under {prefix}: {install.HEADER} {static} "
+    said = f"installed version {version()}{by} under {prefix}: {' '.join(install.HEADERS)} {static} "
     yield "install.py", failed(done) or (None if done.stdout.splitlines()[-1].startswith(said) else done.stdout)
     yield from shared_library(f"{prefix}/{install.LINK}")
     yield from by_pkg_config(prefix, compiler)
@@ -279,7 +279,7 @@ def unpacked(folder):
     yield "the links of the bundle's pages", ", ".join(dead_links(top)) or None
     yield "an installation from the bundle", failed(by_script(f"{folder}/installed", top=top))
     for program in EXAMPLES:
-        compiler = ["cc", "-std=c99", f"-I{top}/include"]
+        compiler = [*c.plainly(program), f"-I{top}/include"]
         yield f"{program} from the bundle", c.compiled_and_run(program, compiler, f"{top}/rust/out/{archives.ALL}", top=top)
     interpreter, lack = python.chosen()
     if lack:

@@ -25,7 +25,7 @@ import install
 import trying
 
 MODULES = ["numpy", "hypothesis", "pytest", "setuptools", "wheel", "build", "pip", "ensurepip"]
-PAGES = ["README.md", "docs/PYTHON.md", "python/README.md"]
+PAGES = ["README.md", "docs/PYTHON.md", "docs/FROM-ROARING.md", "python/README.md"]
 # Mistakes that type checkers have to see, one to a line.
 MISTAKES = """\
 from fimulowen import BM25, Column, IdSet, Query, Term, best, chain, unite

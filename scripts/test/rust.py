@@ -41,6 +41,8 @@ EXAMPLES = {
     "shared": "[7, 9, 10, 300]\n",
     # 300 is at position 3.
     "set": "from 100 on: Some((3, 300)), in both: [9, 300]\n",
+    # 0 to 9 and 12, without 4; 20 came and went.
+    "changing": "[3, 12]\n10 ids, 0 changes\n",
     # 199 and 205 are below 210.
     "column": "row 2: Some(205)\nrows below 210: [1, 2]\n",
 }

@@ -240,6 +240,10 @@ class IdSet(_core.Set):
         """The ids from low up to high, which is not one of them, as an array."""
         return self[self.rank(low) : self.rank(high)]
 
+    def count_between(self, low: SupportsIndex, high: SupportsIndex) -> int:
+        """How many ids are from low to high, both included."""
+        return max(0, self.rank(operator.index(high) + 1) - self.rank(operator.index(low)))
+
     def gather(self, positions: Integers) -> npt.NDArray[np.uint32]:
         """The ids at positions in any order, as an array; those below 0 count from the end. IndexError if one is not in the set."""
         return self._gather(index(positions, len(self)))

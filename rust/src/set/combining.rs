@@ -362,43 +362,4 @@ impl IdSet {
     pub fn symmetric_difference_len(&self, other: &IdSet) -> usize {
         queries::combine_count(Operation::Xor, &self.code(), &other.code())
     }
-
-    /// Returns whether the other set has each id of this one. Stops at the first chunk with an id that it lacks, and allocates nothing.
-    ///
-    /// ```
-    /// use bitpacking::set::IdSetBuf;
-    ///
-    /// let (cats, dogs) = (IdSetBuf::pack(&[1, 4, 6, 9])?, IdSetBuf::pack(&[4, 6])?);
-    /// assert!(dogs.is_subset(&cats) && !cats.is_subset(&dogs));
-    /// # Ok::<(), bitpacking::set::Error>(())
-    /// ```
-    pub fn is_subset(&self, other: &IdSet) -> bool {
-        queries::is_subset(&self.code(), &other.code())
-    }
-
-    /// Returns whether this set has each id of the other: [`is_subset`](IdSet::is_subset) of the other.
-    ///
-    /// ```
-    /// use bitpacking::set::IdSetBuf;
-    ///
-    /// let (cats, dogs) = (IdSetBuf::pack(&[1, 4, 6, 9])?, IdSetBuf::pack(&[4, 6])?);
-    /// assert!(cats.is_superset(&dogs) && !dogs.is_superset(&cats));
-    /// # Ok::<(), bitpacking::set::Error>(())
-    /// ```
-    pub fn is_superset(&self, other: &IdSet) -> bool {
-        other.is_subset(self)
-    }
-
-    /// Returns whether no id is in both sets. Stops at the first chunk that has such an id, and allocates nothing.
-    ///
-    /// ```
-    /// use bitpacking::set::IdSetBuf;
-    ///
-    /// let (cats, dogs) = (IdSetBuf::pack(&[1, 4, 6, 9])?, IdSetBuf::pack(&[2, 7])?);
-    /// assert!(cats.is_disjoint(&dogs));
-    /// # Ok::<(), bitpacking::set::Error>(())
-    /// ```
-    pub fn is_disjoint(&self, other: &IdSet) -> bool {
-        queries::is_disjoint(&self.code(), &other.code())
-    }
 }

@@ -2,9 +2,9 @@
 
 use core::fmt;
 use core::iter::FusedIterator;
-use core::ops::{Bound, RangeBounds};
+use core::ops::RangeBounds;
 
-use super::{IdSet, IdSetBuf};
+use super::{IdSet, IdSetBuf, ranges};
 use crate::iterator::iterator;
 use crate::room::Room;
 use crate::sets;
@@ -67,6 +67,26 @@ impl<'a> Iter<'a> {
             self.code.move_to(after);
             self.code.seek(target);
             self.position = self.code.position().min(self.end);
+        }
+    }
+
+    /// Skips the ids at the end that are above `target`, without unpacking them.
+    ///
+    /// ```
+    /// use bitpacking::set::IdSetBuf;
+    ///
+    /// let set = IdSetBuf::pack(&[1, 4, 6, 9])?;
+    /// let mut ids = set.iter();
+    /// ids.advance_back_to(8);
+    /// assert_eq!((ids.next_back(), ids.len()), (Some(6), 2));
+    /// # Ok::<(), bitpacking::set::Error>(())
+    /// ```
+    pub fn advance_back_to(&mut self, target: u32) {
+        if let Some(next) = target.checked_add(1) {
+            // REQUIRES: the position is one of the set, or its end.
+            self.code.move_to(self.position);
+            self.code.seek(next);
+            self.end = self.code.position().min(self.end);
         }
     }
 }
@@ -181,18 +201,8 @@ impl IdSet {
     /// # Ok::<(), bitpacking::set::Error>(())
     /// ```
     pub fn range(&self, limits: impl RangeBounds<u32>) -> Iter<'_> {
-        // How many ids are up to one.
-        let up_to = |id: u32| id.checked_add(1).map_or(self.len(), |next| self.rank(next));
-        let position = match limits.start_bound() {
-            Bound::Included(id) => self.rank(*id),
-            Bound::Excluded(id) => up_to(*id),
-            Bound::Unbounded => 0,
-        };
-        let end = match limits.end_bound() {
-            Bound::Included(id) => up_to(*id),
-            Bound::Excluded(id) => self.rank(*id),
-            Bound::Unbounded => self.len(),
-        };
-        Iter { position, end: end.max(position), ..self.iter() }
+        let (first, end) = ranges::limits(limits);
+        let position = self.below(first);
+        Iter { position, end: self.below(end).max(position), ..self.iter() }
     }
 }

@@ -136,6 +136,51 @@ pub fn subtract_all_len(sets: &[&IdSet]) -> usize {
     count(Operation::AndNot, sets)
 }
 
+/// Returns the ids that an odd number of sets has, in increasing order. Allocates as [`unite_all`] does.
+///
+/// ```
+/// use bitpacking::set::{IdSetBuf, symmetric_difference_all};
+///
+/// let [cats, dogs, old] = [[1, 4, 6, 9], [4, 6, 7, 9], [2, 6, 8, 9]].map(|ids| IdSetBuf::pack(&ids).unwrap());
+/// assert_eq!(symmetric_difference_all(&[&cats, &dogs, &old]), [1, 2, 6, 7, 8, 9]);
+/// ```
+#[must_use]
+pub fn symmetric_difference_all(sets: &[&IdSet]) -> Vec<u32> {
+    combine(Operation::Xor, sets)
+}
+
+/// Replaces the values of a vector by the ids that [`symmetric_difference_all`] returns. Allocates only if the capacity of the vector is below what
+/// that allocates.
+///
+/// ```
+/// use bitpacking::set::{IdSetBuf, symmetric_difference_all_into};
+///
+/// let [cats, dogs] = [[1, 4, 6, 9], [4, 6, 7, 9]].map(|ids| IdSetBuf::pack(&ids).unwrap());
+/// let mut ids = vec![7, 8];
+/// symmetric_difference_all_into(&[&cats, &dogs], &mut ids);
+/// assert_eq!(ids, [1, 7]);
+/// ```
+pub fn symmetric_difference_all_into(sets: &[&IdSet], ids: &mut Vec<u32>) {
+    combine_into(Operation::Xor, sets, ids);
+}
+
+/// Returns how many ids [`symmetric_difference_all`] returns. Allocates nothing.
+///
+/// # Panics
+///
+/// On a machine of 32 bits, if these are all 2^32 ids.
+///
+/// ```
+/// use bitpacking::set::{IdSetBuf, symmetric_difference_all_len};
+///
+/// let [cats, dogs] = [[1, 4, 6, 9], [4, 6, 7, 9]].map(|ids| IdSetBuf::pack(&ids).unwrap());
+/// assert_eq!(symmetric_difference_all_len(&[&cats, &dogs]), 2);
+/// ```
+#[track_caller]
+pub fn symmetric_difference_all_len(sets: &[&IdSet]) -> usize {
+    count(Operation::Xor, sets)
+}
+
 /// Any number of sets combined into a set. A call allocates as many bytes as all sets have, more if the answer has more, and 16 for each chunk, or for
 /// each id of a set that is not in chunks, but at most 1 MB of these.
 impl IdSetBuf {

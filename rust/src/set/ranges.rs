@@ -14,7 +14,7 @@ use crate::slices::Operation;
 const MOST: usize = 1 << 28;
 
 /// Where the ids of a range begin, and before what they end.
-fn limits(range: impl RangeBounds<u32>) -> (u64, u64) {
+pub(super) fn limits(range: impl RangeBounds<u32>) -> (u64, u64) {
     let first = match range.start_bound() {
         Bound::Included(&id) => u64::from(id),
         Bound::Excluded(&id) => u64::from(id) + 1,
@@ -142,14 +142,70 @@ impl IdSetBuf {
     /// # Ok::<(), bitpacking::set::Error>(())
     /// ```
     pub fn remove_range(&mut self, range: impl RangeBounds<u32>) -> Result<(), Error> {
-        let ranges = sets_of(limits(range))?;
+        self.combine_range(Operation::AndNot, limits(range))
+    }
+
+    /// Turns all ids of a range over: takes out of the set each that it has, and puts the others into it. The set is replaced by another one.
+    ///
+    /// # Errors
+    ///
+    /// `TooLong`, if the set would have more than 268,435,456 ids; `Memory`. The set is then unchanged.
+    ///
+    /// ```
+    /// use bitpacking::set::IdSetBuf;
+    ///
+    /// let mut set = IdSetBuf::pack(&[1, 4, 9])?;
+    /// set.flip(3..6)?;
+    /// assert_eq!(set.unpack(), [1, 3, 5, 9]);
+    /// # Ok::<(), bitpacking::set::Error>(())
+    /// ```
+    pub fn flip(&mut self, range: impl RangeBounds<u32>) -> Result<(), Error> {
+        self.combine_range(Operation::Xor, limits(range))
+    }
+
+    /// Combines the set with all ids of a range, which may be more than a set has.
+    fn combine_range(&mut self, operation: Operation, limits: (u64, u64)) -> Result<(), Error> {
+        let ranges = sets_of(limits)?;
         let sets: Vec<&IdSet> = core::iter::once(&**self).chain(ranges.iter().map(|set| &**set)).collect();
-        *self = try_combine_set(Operation::AndNot, &sets)?;
+        *self = try_combine_set(operation, &sets)?;
         Ok(())
     }
 }
 
 impl IdSet {
+    /// Returns how many ids are within a range. Looks into the chunks of both ends alone, and allocates nothing.
+    ///
+    /// ```
+    /// use bitpacking::set::IdSetBuf;
+    ///
+    /// let set = IdSetBuf::pack(&[1, 4, 6, 9])?;
+    /// assert_eq!((set.count_between(4..9), set.count_between(4..), set.count_between(9..4)), (2, 3, 0));
+    /// # Ok::<(), bitpacking::set::Error>(())
+    /// ```
+    pub fn count_between(&self, range: impl RangeBounds<u32>) -> usize {
+        let (first, end) = limits(range);
+        self.below(end).saturating_sub(self.below(first))
+    }
+
+    /// Returns whether the set has all ids of a range. Looks into the chunks of both ends alone, and allocates nothing.
+    ///
+    /// ```
+    /// use bitpacking::set::IdSetBuf;
+    ///
+    /// let set = IdSetBuf::pack(&[1, 4, 5, 6, 9])?;
+    /// assert!(set.contains_range(4..7) && !set.contains_range(4..8) && set.contains_range(2..2));
+    /// # Ok::<(), bitpacking::set::Error>(())
+    /// ```
+    pub fn contains_range(&self, range: impl RangeBounds<u32>) -> bool {
+        let (first, end) = limits(range);
+        self.below(end).saturating_sub(self.below(first)) as u64 == end.saturating_sub(first)
+    }
+
+    /// How many ids are below a number, which may be above the last id.
+    pub(super) fn below(&self, end: u64) -> usize {
+        u32::try_from(end).map_or(self.len(), |end| self.rank(end))
+    }
+
     /// Returns the set of the integers below `end` that this set lacks. An end above 2^32 is as 2^32.
     ///
     /// # Errors

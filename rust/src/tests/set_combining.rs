@@ -8,7 +8,8 @@ use super::set_models::{FORMS, Model, Numbers, listed, packed, some_ids, used};
 use super::set_reading::longest;
 use crate::set::{
     Error, IdSet, IdSetBuf, intersect_all, intersect_all_into, intersect_all_len, subtract_all, subtract_all_into,
-    subtract_all_len, unite_all, unite_all_into, unite_all_len,
+    subtract_all_len, symmetric_difference_all, symmetric_difference_all_into, symmetric_difference_all_len, unite_all,
+    unite_all_into, unite_all_len,
 };
 
 /// A pair of sets of all forms, some of them alike.
@@ -68,6 +69,9 @@ fn two_sets() {
         assert_eq!([(&a | &b | &third).unpack(), (x() | y() | third).unpack()], [all.clone(), all]);
         let within = [one.is_superset(&other), other.is_superset(&one), true];
         assert_eq!([a.is_superset(&b), b.is_superset(&a), (&a | &b).is_superset(&b)], within);
+        let share = if right[1].is_empty() { 1.0 } else { right[0].len() as f64 / right[1].len() as f64 };
+        assert_eq!([a.jaccard(&b), b.jaccard(&borrowed_of(&a)), a.jaccard(&a)], [share, share, 1.0]);
+        assert_eq!([a.partial_cmp(&borrowed), (*b).partial_cmp(&a)], [one.partial_cmp(&other), other.partial_cmp(&one)]);
         let lens = [a.intersect_len(&b), a.unite_len(&b), a.subtract_len(&b), a.symmetric_difference_len(&b)];
         assert_eq!(lens, right.each_ref().map(Vec::len));
         let into = [IdSet::intersect_into, IdSet::unite_into, IdSet::subtract_into, IdSet::symmetric_difference_into];
@@ -106,13 +110,12 @@ fn many_sets() {
         for (to_set, right) in to_sets.iter().zip([&shared, &any, &alone, &odd]) {
             assert_eq!(to_set(&sets).unwrap().as_bytes(), IdSetBuf::pack(right).unwrap().as_bytes());
         }
-        assert_eq!([intersect_all(&sets), unite_all(&sets), subtract_all(&sets)], [shared.clone(), any.clone(), alone.clone()]);
-        assert_eq!(
-            [intersect_all_len(&sets), unite_all_len(&sets), subtract_all_len(&sets)],
-            [shared.len(), any.len(), alone.len()]
-        );
-        let calls = [intersect_all_into, unite_all_into, subtract_all_into];
-        for (into, right) in calls.iter().zip([shared, any, alone]) {
+        let right = [shared, any, alone, odd];
+        assert_eq!([intersect_all, unite_all, subtract_all, symmetric_difference_all].map(|call| call(&sets)), right);
+        let counts = [intersect_all_len, unite_all_len, subtract_all_len, symmetric_difference_all_len];
+        assert_eq!(counts.map(|call| call(&sets)), right.each_ref().map(Vec::len));
+        let calls = [intersect_all_into, unite_all_into, subtract_all_into, symmetric_difference_all_into];
+        for (into, right) in calls.iter().zip(right) {
             // The vector of the call before.
             into(&sets, &mut ids);
             assert_eq!(ids, right);

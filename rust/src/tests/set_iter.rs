@@ -31,7 +31,7 @@ fn moves(numbers: &mut Numbers, mut iter: Iter<'_>, ids: &[u32]) {
     while ids.len() > 0 {
         assert_eq!((iter.len(), iter.size_hint()), (ids.len(), ids.size_hint()));
         let n = [0, 1, 3, 40, 300][numbers.below(5) as usize];
-        match numbers.below(7) {
+        match numbers.below(8) {
             0 => assert_eq!(iter.next(), ids.next().copied()),
             1 => assert_eq!(iter.next_back(), ids.next_back().copied()),
             2 => assert_eq!(iter.nth(n), ids.nth(n).copied()),
@@ -42,6 +42,12 @@ fn moves(numbers: &mut Numbers, mut iter: Iter<'_>, ids: &[u32]) {
                 ids = ids.as_slice()[ids.as_slice().partition_point(|id| *id < target)..].iter();
             }
             5 => assert!(iter.by_ref().take(n).eq(ids.by_ref().take(n).copied())),
+            6 => {
+                let last = ids.as_slice()[ids.len().saturating_sub(1 + n)];
+                let target = last.saturating_add(numbers.below(5)).saturating_sub(2);
+                iter.advance_back_to(target);
+                ids = ids.as_slice()[..ids.as_slice().partition_point(|id| *id <= target)].iter();
+            }
             _ => {
                 assert_eq!((iter.clone().last(), iter.clone().count()), (ids.clone().last().copied(), ids.len()));
                 assert!(iter.clone().eq(ids.clone().copied()) && iter.clone().rev().eq(ids.clone().rev().copied()));
@@ -100,6 +106,7 @@ fn ranges() {
                 let wanted: Vec<u32> = ids.iter().copied().filter(within).collect();
                 assert_eq!(set.range(limits).collect::<Vec<u32>>(), wanted);
                 assert_eq!((set.range(limits).len(), set.range(limits).next_back()), (wanted.len(), wanted.last().copied()));
+                assert_eq!(set.count_between(limits), wanted.len());
             }
         }
         let middle = ids.get(ids.len() / 2).copied().unwrap_or(8);

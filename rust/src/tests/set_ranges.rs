@@ -58,12 +58,23 @@ fn put_in_and_taken_out() {
             assert_eq!((set.insert(id), set.insert(id)), (Ok(model.insert(id)), Ok(false)));
             assert_eq!(set.as_bytes(), packed(&model).as_bytes());
             let (first, end) = limits(&mut numbers);
-            if numbers.below(2) == 0 {
-                set.insert_range(first..end).unwrap();
-                model.extend(first..end);
-            } else {
-                set.remove_range(first..end).unwrap();
-                model.retain(|it| !(first..end).contains(it));
+            let all: Model = (first..end).collect();
+            let within = model.range(first..end).count();
+            assert_eq!((set.count_between(first..end), set.contains_range(first..end)), (within, within == all.len()));
+            match numbers.below(3) {
+                0 => {
+                    set.insert_range(first..end).unwrap();
+                    model.extend(all);
+                    assert!(set.contains_range(first..end) && set.count_between(first..end) == (end - first) as usize);
+                }
+                1 => {
+                    set.remove_range(first..end).unwrap();
+                    model = &model - &all;
+                }
+                _ => {
+                    set.flip(first..end).unwrap();
+                    model = &model ^ &all;
+                }
             }
             assert_eq!(set.as_bytes(), packed(&model).as_bytes());
             assert_eq!((set.remove(id), set.remove(id)), (Ok(model.remove(&id)), Ok(false)));
@@ -91,6 +102,12 @@ fn more_ids_than_a_set_has() {
     assert_eq!(set.complement(1 << 29).err(), Some(Error::TooLong((1 << 28) + 1)));
     assert_eq!(set.complement((1 << 29) - 1).unwrap().len(), 1 << 28);
     assert_eq!(set.complement(u64::MAX).err(), Some(Error::TooLong(15 << 28)));
+    // Below 2^29 - 2 the set lacks 2^28 - 1 ids. It has the last id too.
+    let end = (1 << 29) - 2;
+    assert_eq!((set.flip(..1 << 29), set.flip(..end), set.len()), (Err(Error::TooLong((1 << 28) + 2)), Ok(()), 1 << 28));
+    assert_eq!((set.flip(6..7), set.contains(6), set.contains(5)), (Err(Error::TooLong((1 << 28) + 1)), false, true));
+    assert_eq!((set.flip(..end), set.contains_range(..5), set.contains_range(..)), (Ok(()), true, false));
+    assert_eq!((set.count_between(..), set.count_between(LAST..), set.contains_range(LAST..)), (1 << 28, 1, true));
     assert_eq!((set.remove_range(7..), set.unpack()), (Ok(()), Vec::from([0, 1, 2, 3, 4, 6])));
     assert_eq!(set.complement(0), Ok(IdSetBuf::default()));
 }

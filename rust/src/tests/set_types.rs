@@ -50,6 +50,7 @@ fn compared_and_hashed() {
     assert_eq!((equal, one == other, *borrowed == other), ([true; 6], false, false));
     let found = HashSet::from([one.clone(), same, other]);
     assert_eq!((found.len(), found.get(&*borrowed)), (2, Some(&one)));
+    assert_eq!((IdSetBuf::new(), *IdSetBuf::new() < *one, one < borrowed), (IdSetBuf::default(), true, false));
 }
 
 /// Clones have bytes of their own, or the same ones, and are there after the first is gone.
