@@ -1,4 +1,4 @@
--- What the calls on cursors of sets return, and where they move.
+-- What the calls on cursors of sets return, and to which id they move.
 use Rattle.std.specs.Prelude.{◌≡◌, ℕ, ℤ, List}
 use Rattle.bitpack_sets.specs.Reads.{ids_in}
 use Rattle.bitpacking_c.specs.Views.{Gets}

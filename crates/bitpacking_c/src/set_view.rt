@@ -51,6 +51,7 @@ impl<'a> SetView<'a> {
         ensures some { IfSome result (λ set. ids set ≡ ids_in self.now.bytes.now) }
         ensures bytes { IfSome result (λ set. encoding_of set ≡ self.now.bytes.now) }
         ensures none { result ≡ None → ids_in self.now.bytes.now ≡ [] }
+        ensures form { result ≡ None → slice_index self.now.bytes.now 0 ≡ 0 }
     {
         if self.bytes.len() == 0 {
             return None;
@@ -73,10 +74,10 @@ impl<'a> SetView<'a> {
         ensures before { (window : Window) → IsWindow self.now.bytes.now window → IsWindow (encoding_of result) window }
         ensures after { (window : Window) → IsWindow (encoding_of result) window → IsWindow self.now.bytes.now window }
     {
-        match self.set() {
-            Some(set) => set,
-            None => no_ids(),
-        }
+        let Some(set) = self.set() else {
+            return no_ids();
+        };
+        set
     }
 }
 

@@ -51,7 +51,7 @@ invariant_of-self c =
     let it = c.args.self.now in
     let less = before c.args.self.now c.args.set.now c.args.target c.rank_in_ids-passed.result c.requires.window c.requires.some c.requires.last c.rank_in_ids-passed.ensures in
     let after = it.after in
-    record { after = omega arith; before = omega arith; room = it.room; few = it.few; }
+    record { after = omega arith; before = omega arith; room = it.room; few = it.few }
 
 pub bounds-self-from : goal.bounds-self-from
 bounds-self-from c =
@@ -65,7 +65,7 @@ pub returns-clause-window : goal.returns-clause-window
 returns-clause-window c =
     let window = c.requires.window in
     let less = before c.args.self.now c.args.set.now c.args.target c.rank_in_ids-passed.result c.requires.window c.requires.some c.requires.last c.rank_in_ids-passed.ensures in
-    record { some = window.some; within = window.within; values = window.values; ready = λ past. absurd (omega arith); holds = window.holds; }
+    record { some = window.some; within = window.within; values = window.values; ready = λ past. absurd (omega arith); holds = window.holds }
 
 pub returns-clause-next : goal.returns-clause-next
 returns-clause-next c =
