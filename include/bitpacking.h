@@ -466,6 +466,61 @@ size_t bitpacking_set_rank(const bitpacking_set *view, uint32_t target);
  * the buffer after them are unchanged. */
 ptrdiff_t bitpacking_set_slice(const bitpacking_set *view, size_t from, uint32_t *ids, size_t ids_len);
 
+/* A cursor is a position in the ids of a set that only moves forward. It is a struct of the caller of about 1 KB, which has a copy of the view and up
+ * to 256 unpacked ids: so the next id, and a seek that passes few, take a few instructions.
+ *
+ * Set a cursor to BITPACKING_SET_CURSOR_EMPTY before anything else, or all of it to zero: each is a cursor of the empty set. Then start it, as often
+ * as you like. Only the functions for cursors may write its fields, and the bytes of the set stay where they are, unchanged, for as long as it is
+ * used. The view itself may change or go. A copy of a cursor moves on its own.
+ *
+ *     bitpacking_set_cursor one = BITPACKING_SET_CURSOR_EMPTY, other = BITPACKING_SET_CURSOR_EMPTY;
+ *     bitpacking_set_cursor_start(&one, &sets[0]);
+ *     bitpacking_set_cursor_start(&other, &sets[1]);
+ *     more = bitpacking_set_cursor_value(&one, &id);
+ *     while (more && bitpacking_set_cursor_seek(&other, id, &next)) {
+ *         if (next > id) {
+ *             more = bitpacking_set_cursor_seek(&one, next, &id);
+ *         } else {
+ *             ... both have id ...
+ *             more = bitpacking_set_cursor_advance(&one, &id);
+ *         }
+ *     }
+ */
+typedef struct bitpacking_set_cursor {
+    bitpacking_set set;
+    size_t next;
+    size_t begin;
+    size_t end;
+    size_t most;
+    size_t chunk;
+    size_t index;
+    size_t offset;
+    size_t before;
+    uint32_t unpacked[256];
+} bitpacking_set_cursor;
+
+#define BITPACKING_SET_CURSOR_EMPTY {BITPACKING_SET_EMPTY, 0, 0, 0, 0, 0, 0, 0, 0, {0}}
+
+/* Starts a cursor at the first id of a set. */
+void bitpacking_set_cursor_start(bitpacking_set_cursor *cursor, const bitpacking_set *set);
+
+/* Writes the id at the cursor, and returns 1. After the last id it returns 0 and writes nothing. */
+int32_t bitpacking_set_cursor_value(const bitpacking_set_cursor *cursor, uint32_t *id);
+
+/* Returns how many ids of the set are before the cursor. */
+size_t bitpacking_set_cursor_position(const bitpacking_set_cursor *cursor);
+
+/* Moves to the next id, writes it, and returns 1. If there is none the cursor is after the last id then, and the call returns 0 and writes nothing. */
+int32_t bitpacking_set_cursor_advance(bitpacking_set_cursor *cursor, uint32_t *id);
+
+/* Moves to the first id from the cursor on that is at least target, writes it, and returns 1. It does not move if the id at the cursor is. If
+ * there is none the cursor is after the last id then, and the call returns 0 and writes nothing. */
+int32_t bitpacking_set_cursor_seek(bitpacking_set_cursor *cursor, uint32_t target, uint32_t *id);
+
+/* Unpacks the ids from the cursor on, as many as there are and as fit, and moves after them. Returns how many these are, which is 0 only after the
+ * last id, or if there is no room. Those in the buffer after them are unchanged. */
+ptrdiff_t bitpacking_set_cursor_fill(bitpacking_set_cursor *cursor, uint32_t *ids, size_t ids_len);
+
 /* The greatest base: with it, no id or value passes 64 bits. */
 #define BITPACKING_MAX_BASE (UINT64_MAX - UINT32_MAX)
 

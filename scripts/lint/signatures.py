@@ -15,7 +15,10 @@ C_TYPES |= {"u8": "uint8_t", "u32": "uint32_t", "i32": "int32_t", "u64": "uint64
 CRATE, RANKED = "crates/bitpacking_c/src", "crates/bitpack_ranked/src"
 STRUCTS = {"Walk": f"{RANKED}/walk.rt", "Scored": f"{RANKED}/found.rt", "BlockBounds": f"{RANKED}/block_bounds.rt"}
 STRUCTS |= {f"{it}{what}": f"{CRATE}/{it.lower()}_{what.lower()}.rt" for it in ("Set", "Column") for what in ("View", "Builder")}
-STRUCTS |= {"TermView": f"{CRATE}/term_view.rt"}
+STRUCTS |= {"TermView": f"{CRATE}/term_view.rt", "SetCursor": f"{CRATE}/set_cursor.rt"}
+# Structs whose fields stand in place of a field of this type.
+INNER = {"Window": "crates/bitpack_sets/src/window.rt", "ChunkPlace": "crates/bitpack_sets/src/place.rt"}
+INNER |= {"Place": "crates/bitpack_slices/src/chunk/place.rt"}
 C_TYPES.update({name: "bitpacking" + re.sub("[A-Z]", r"_\g<0>", name.removesuffix("View")).lower() for name in STRUCTS})
 HEADER, LIMITS = "include/bitpacking.h", "crates/bitpacking/src/limits.rt"
 # Where the version is, beside CHANGELOG.md: as a number, a million times the major one, a thousand times the minor one, and the patch; as text.
@@ -42,12 +45,19 @@ def parameters(text):
     return [it for name, written in re.findall(r"(\w+): ([^,]+)", " ".join(text.split())) for it in in_c(written.strip(), name)]
 
 
+def fields(name, file):
+    """The fields of a struct, with numbers for constants."""
+    text = code(file)
+    found = re.search(rf"\bstruct {name}(?:<'a>)? \{{(.*?)(?:\bghost\b|\}})", text, re.S)[1].removesuffix("pub ")
+    found = re.sub(r"(?<=; )[A-Z_]+(?=\])", lambda it: re.search(rf"\bconst {it[0]}: usize = (\d+);", text)[1], found)
+    return re.sub(rf"\w+: ({'|'.join(INNER)}),", lambda it: fields(it[1], INNER[it[1]]), found)
+
+
 def exported():
     """Of each function of the crate what it returns and its parameters, in C; and the fields of a struct."""
     found = {}
     for name, file in STRUCTS.items():
-        fields = re.search(rf"\bstruct {name}(?:<'a>)? \{{(.*?)(?:\bghost\b|\}})", code(file), re.S)[1]
-        found[C_TYPES[name]] = parameters(fields.removesuffix("pub "))
+        found[C_TYPES[name]] = parameters(fields(name, file))
     for path in paths(f"{CRATE}/*.rt"):
         functions = re.findall(r'extern "C" fn (\w+)(?:<[^>]*>)?\(([^)]*)\)(?: -> (\w+))?', text_of(path))
         found.update({name: (in_c(returned) if returned else ["void"]) + parameters(given) for name, given, returned in functions})

@@ -1,6 +1,6 @@
 #!/usr/bin/env python3
 """Compiles and runs C programs over the archive for all levels of the processor and that of each level: those of examples/, whose output is
-worked by hand, calls.c, ranking.c and pages.c, id_sets.c, bitmaps.c and columns.c over the tables of vectors/, and cases.c, random cases. They are
+worked by hand, calls.c, ranking.c and pages.c, id_sets.c, bitmaps.c and columns.c over the tables of vectors/, cursors.c and cases.c, random cases. They are
 C99 with every warning an error, run with little stack, and once more with the address sanitizer. calls.c is also C++11 and C++17. In qemu all run
 on aarch64, those that read no table on an x86-64 of each level, and three over the Rust crate on aarch64. The header has no warning of gcc or
 clang, from C99 to C23 and from C++11 to C++20, for 64 and 32 bits; bitpacking.hpp has none from C++17 to C++23, and runs the example and sets.cpp.
@@ -29,6 +29,7 @@ CALLS = "scripts/test/calls.c"
 ID_SETS = "scripts/test/id_sets.c"
 BITMAPS = "scripts/test/bitmaps.c"
 COLUMN_TABLES = "scripts/test/columns.c"
+CURSORS = "scripts/test/cursors.c"
 RANKING = "scripts/test/ranking.c"
 RANDOM = "scripts/test/cases.c"
 PAGES = "scripts/test/pages.c"
@@ -64,6 +65,7 @@ PROGRAMS = {
     # Gaps of 2 and 4 in turn: one less are 1 and 3, two bits each, and so 2 * 16 bytes for each block of 128.
     "examples/chain.c": "300 numbers: 2 and 2 bits, 64 bytes, 44 numbers as they are\n",
     "examples/id_set.c": "in both: 9\nin both: 300\n",
+    "examples/cursor.c": "position 1 and 0: 9\nposition 3 and 2: 300\n",
     # Byte 0, the first id 7 as a number, and a group of the codes 1, 0, 289 and 4 of 7, 9, 10, 300 and 305: a byte with their width 9, and 36 bits.
     "examples/growing_set.c": "4 and 1 ids in 8 bytes\nleft: 10\nleft: 305\n",
     # Row r costs 5000 and 37 * r, modulo 1000. Since 37 * 973 is 36001, each price from 5000 to 5999 is there once, and 1 more is 27 rows before.
@@ -79,6 +81,7 @@ PROGRAMS = {
     ID_SETS: "563 sets, 3031 refusals, 189 pairs\n",
     BITMAPS: "165 bitmaps, 614 refusals\n",
     COLUMN_TABLES: "727 columns, 2605 refusals\n",
+    CURSORS: "240 sets\n",
     RANKING: "all calls\n",
     RANDOM: "340 cases\n",
     PAGES: "all calls\n",

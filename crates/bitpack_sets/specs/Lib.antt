@@ -5,6 +5,7 @@ pub mod Directory
 pub mod Faults
 pub mod Forms
 pub mod Fronts
+pub mod inner
 pub mod Laws
 pub mod Opened
 pub mod Pairs

@@ -16,7 +16,7 @@ pub struct Cursor<'a> {
     pub(crate) set: IdSet<'a>,
     pub(crate) position: usize,
     // A slice that is not after the position, if the set is in chunks.
-    at: ChunkPlace,
+    pub(crate) at: ChunkPlace,
     ghost within: { position ≤ length (ids set) },
     ghost holds: { slice_index (encoding_of set) 0 ≡ 5 → Holds set.chunks set.rest.now at position } by { Prim.hlevel props },
 }
@@ -28,11 +28,18 @@ impl<'a> Cursor<'a> {
         ensures set { result.set ≡ set.entry }
         ensures position { result.position ≡ 0 }
     {
-        Cursor {
-            set,
-            position: 0,
-            at: ChunkPlace::first(),
-        }
+        Cursor::from_place(set, 0, ChunkPlace::first())
+    }
+
+    /// A position whose slice, or one before it, was found.
+    #[inline(always)]
+    pub(crate) fn from_place(set: IdSet<'a>, position: usize, at: ChunkPlace) -> Cursor<'a>
+        requires within { position ≤ length (ids set) }
+        requires holds { slice_index (encoding_of set) 0 ≡ 5 → Holds set.chunks set.rest.now at position }
+        ensures set { result.set ≡ set.entry }
+        ensures position { result.position ≡ position }
+    {
+        Cursor { set, position, at }
     }
 
     /// How many ids are before the position.

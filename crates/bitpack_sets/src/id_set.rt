@@ -188,7 +188,7 @@ impl<'a> IdSet<'a> {
     // claim: sets/12 an iterator returns each id once, in increasing order
     pub fn iter(&self) -> Ids<'a>
         // All ids are left.
-        ensures { drop result.next (ids result.set) ≡ ids self.now }
+        ensures { drop result.window.next (ids result.set) ≡ ids self.now }
     {
         Ids::new(*self)
     }

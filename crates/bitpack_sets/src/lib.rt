@@ -26,6 +26,7 @@ pub mod few;
 pub mod finding;
 pub mod id_set;
 pub mod reserved;
+pub mod window;
 
 pub use appending::{append, append_to};
 pub use as_set::AsSet;

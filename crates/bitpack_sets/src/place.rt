@@ -9,6 +9,7 @@ use crate::directory::{Directory, count_before, key_at, sum_at};
 use bitpack_slices::chunk::place::Place;
 
 /// A chunk, and a slice of its body.
+#[repr(C)]
 #[derive(Clone, Copy)]
 pub(crate) struct ChunkPlace {
     pub(crate) chunk: usize,

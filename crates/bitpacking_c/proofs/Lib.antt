@@ -2,3 +2,4 @@ pub mod ChainLengths
 pub mod ColumnSteps
 pub mod ManySteps
 pub mod TermSteps
+pub mod WindowSteps

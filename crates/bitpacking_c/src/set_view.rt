@@ -1,13 +1,13 @@
 //! Id sets, opened without a copy: a view in the caller's memory holds the bytes, and that they are a set.
 
-ghost use Rattle.std.specs.Prelude.{◌≡◌, ◌≢◌, [], length, None};
+ghost use Rattle.std.specs.Prelude.{◌≡◌, ◌≢◌, [], length, slice_index, None};
 ghost use Rattle.bitpack_sets.specs.Faults.{fault};
-ghost use Rattle.bitpack_sets.specs.Opened.{ids};
+ghost use Rattle.bitpack_sets.specs.Opened.{encoding_of, ids};
 ghost use Rattle.bitpack_slices.specs.Reads.{has};
 ghost use Rattle.bitpack_sets.specs.Reads.{ids_in};
 ghost use Rattle.bitpack_sets.specs.Stated.{States};
 ghost use Rattle.bitpacking_c.specs.IdSets.{Encodes, SeeksId, number_of_answer, set_fault_number};
-ghost use Rattle.bitpacking_c.specs.Views.{Gets, UnpacksValues};
+ghost use Rattle.bitpacking_c.specs.Views.{Gets, UnpacksValues, WritesFound};
 
 use bitpack_sets::{AsSet, IdSet, Parts};
 
@@ -29,7 +29,8 @@ pub struct SetView<'a> {
 
 impl<'a> SetView<'a> {
     ghost use Rattle.std.specs.Prelude.{IfSome};
-    ghost use Rattle.bitpack_sets.specs.Opened.{encoding_of};
+    ghost use Rattle.bitpack_sets.specs.inner.Windows.{IsWindow};
+    ghost use Rattle.bitpack_sets.specs.declared.window.Window.{Window};
 
     /// The view of an opened set, which has these bytes.
     fn of_set(bytes: &'a [u8], set: &IdSet<'a>) -> SetView<'a>
@@ -48,7 +49,9 @@ impl<'a> SetView<'a> {
     /// The set, if the view was opened. Reads none of the bytes.
     fn set(&self) -> Option<IdSet<'a>>
         ensures some { IfSome result (λ set. ids set ≡ ids_in self.now.bytes.now) }
+        ensures bytes { IfSome result (λ set. encoding_of set ≡ self.now.bytes.now) }
         ensures none { result ≡ None → ids_in self.now.bytes.now ≡ [] }
+        ensures form { result ≡ None → slice_index self.now.bytes.now 0 ≡ 0 }
     {
         if self.bytes.len() == 0 {
             return None;
@@ -62,6 +65,20 @@ impl<'a> SetView<'a> {
             },
         ))
     }
+
+    /// The set, which is the empty one if the view was not opened. Reads none of the bytes.
+    #[inline(always)]
+    pub(crate) fn read(&self) -> IdSet<'a>
+        ensures ids { ids result ≡ ids_in self.now.bytes.now }
+        // Windows of the one are of the other.
+        ensures before { (window : Window) → IsWindow self.now.bytes.now window → IsWindow (encoding_of result) window }
+        ensures after { (window : Window) → IsWindow (encoding_of result) window → IsWindow self.now.bytes.now window }
+    {
+        let Some(set) = self.set() else {
+            return no_ids();
+        };
+        set
+    }
 }
 
 impl<'a> AsSet for SetView<'a> {
@@ -69,16 +86,28 @@ impl<'a> AsSet for SetView<'a> {
 
     #[inline(always)]
     fn as_set(&self) -> IdSet<'_> {
-        match self.set() {
-            Some(set) => set,
-            None => no_ids(),
+        self.read()
+    }
+}
+
+/// Writes an id that was found and returns 1, or returns 0 and writes nothing.
+#[inline(always)]
+pub(crate) fn written(found: Option<u32>, id: &mut u32) -> i32
+    ensures { WritesFound found id.old id.new result }
+{
+    match found {
+        Some(found) => {
+            *id = found;
+            1
         }
+        None => 0,
     }
 }
 
 /// The empty set.
 fn no_ids<'a>() -> IdSet<'a>
-    ensures { ids result ≡ [] }
+    ensures ids { ids result ≡ [] }
+    ensures form { slice_index (encoding_of result) 0 ≡ 128 }
 {
     IdSet::of_tested(&[0x80])
 }
@@ -153,13 +182,7 @@ pub extern "C" fn bitpacking_set_get(view: &SetView<'_>, position: usize, id: &m
     let Some(set) = view.set() else {
         return 0;
     };
-    match set.select(position) {
-        Some(found) => {
-            *id = found;
-            1
-        }
-        None => 0,
-    }
+    written(set.select(position), id)
 }
 
 /// Writes the position of the first id that is at least the target, and the id, and returns 1. If every id is below the target it returns 0

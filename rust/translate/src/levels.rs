@@ -24,15 +24,13 @@ pub const SHARED: [(File, &str); 10] = [
     (("ranking", "block_bounds.rt"), "BlockBounds"),
 ];
 
-/// Types that each copy has, and whose values cross from one to the other: both have the layout of C.
-pub const CROSSING: [(File, &str); 14] = [
+/// Types that each copy has, and whose values cross from one to the other: both have the layout of C. The sources give it to `Place` and `ChunkPlace`.
+pub const CROSSING: [(File, &str); 12] = [
     (("bitpacking", "bitpacker8x.rt"), "BitPacker8x"),
     (("bitpacking", "instruction_set.rt"), "InstructionSet"),
     (("bitpacking", "memory.rt"), "Steps"),
-    (("slices", "chunk/place.rt"), "Place"),
     (("sets", "cursor.rt"), "Cursor"),
     (("sets", "id_set.rt"), "IdSet"),
-    (("sets", "place.rt"), "ChunkPlace"),
     (("sets", "opening.rt"), "Parts"),
     (("queries", "query.rt"), "Query"),
     (("queries", "query/walking.rt"), "Walk"),

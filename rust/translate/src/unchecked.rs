@@ -13,7 +13,7 @@ pub const FILES: [(&str, &[&str]); 7] = [
     ("bitpacking", &["memory.rt"]),
     ("groups", &["group.rt", "groups.rt", "integers.rt", "numbers.rt", "widths.rt"]),
     ("slices", &["bitmap", "blocks.rt", "blocks", "body/mixing.rt", "chunk", "integers.rt", "listed.rt", "slice.rt", "slice"]),
-    ("sets", &["array.rt", "chunks.rt", "directory.rt", "few.rt", "ids.rt", "searching.rt", "sought.rt"]),
+    ("sets", &["array.rt", "chunks.rt", "directory.rt", "few.rt", "searching.rt", "sought.rt", "window.rt"]),
     ("queries", &["combining_all.rt", "folding.rt", "in_place.rt"]),
     ("columns", &["code.rt", "column", "encoding/bodies.rt", "encoding/measuring.rt", "entries.rt", "opening"]),
 ];

@@ -9,3 +9,4 @@ pub mod PositionLaws
 pub mod RangeLaws
 pub mod SoughtLaws
 pub mod WalkLaws
+pub mod WindowLaws

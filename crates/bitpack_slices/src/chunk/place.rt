@@ -11,6 +11,7 @@ use crate::slice::search::{in_slice, rank_in_slice, select_in_slice};
 use crate::slice::testing::count_numbers;
 
 /// A slice of a body of blocks, or the end of its slices. Other bodies have no slices, and only the first `Place`.
+#[repr(C)]
 #[derive(Clone, Copy)]
 pub struct Place {
     // Its index, its offset among the slices, and how many numbers are before it.

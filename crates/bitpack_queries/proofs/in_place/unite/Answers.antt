@@ -22,14 +22,14 @@ loop-id-init c =
 pub move_below-moved-requires : goal.move_below-moved-requires
 move_below-moved-requires c = (not_read _ _ _ _ _ _ _ c.loop-id.invariant.so, c.loop-id.invariant.within)
 
-written : (c : goal.After-is_at) → IsWritten (drop c.args.start c.args.values.now) (ids c.args.set.now) c.move_below-moved.new.values (drop c.next.new.self.next (ids c.next.new.self.set))
+written : (c : goal.After-is_at) → IsWritten (drop c.args.start c.args.values.now) (ids c.args.set.now) c.move_below-moved.new.values (drop c.next.new.self.window.next (ids c.next.new.self.set))
     (c.loop-id.written + c.move_below-moved.result) (c.loop-id.from + c.move_below-moved.result + bool_byte c.is_at.result) c.in-Some.id
 written c =
     let own : List ℕ = drop c.args.start c.args.values.now in
     let values : List ℕ = c.loop-id.values in
     let moved = c.move_below-moved.ensures in
     let long : length c.move_below-moved.new.values ≡ length values = c.move_below-moved.auto.values in
-    step own (ids c.args.set.now) values c.move_below-moved.new.values (drop c.next.new.self.next (ids c.next.new.self.set)) c.loop-id.written c.loop-id.from
+    step own (ids c.args.set.now) values c.move_below-moved.new.values (drop c.next.new.self.window.next (ids c.next.new.self.set)) c.loop-id.written c.loop-id.from
     c.move_below-moved.result c.in-Some.id c.is_at.result
     (subst (λ (left : List ℕ). IsUniting own (ids c.args.set.now) (take c.loop-id.written values) (drop c.loop-id.from values) left c.loop-id.written c.loop-id.from)
     c.in-Some.ensures.steps c.loop-id.invariant.so)

@@ -1,0 +1,2 @@
+-- What inner contracts say.
+pub mod Windows
