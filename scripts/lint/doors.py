@@ -16,7 +16,10 @@ from texts import at, end_of_braces, for_crates_above, for_users, paths, results
 FACE, HEADER, FILES = "rust/src", "include/bitpacking.h", "rust/translate/src/files.rs"
 FOR_C = f"{FACE}/c_functions.rs"  # public with the feature `c`, for the package in rust/c/
 SEALS = {"Code": "packers", "ClonedBytes": "stable_bytes"}  # traits that no user can name, with their modules
-SAID = {"tested": "accepted before", "bounded": "for the same classes"}  # what the header says of a function for C, by the name of its clause
+SAID = {
+    "tested": "accepted before",
+    "bounded": "for the same classes",
+}  # what the header says of a function for C, by the name of its clause
 FN = re.compile(r"(?m)^( *)((?:pub(?:\(crate\))? )?)((?:extern \"C\" )?)fn (\w+)")
 without_comments = functools.cache(functools.partial(re.sub, r"//.*", ""))
 
