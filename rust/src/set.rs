@@ -148,7 +148,12 @@ impl IdSetBuf {
     /// ```
     /// use bitpacking::set::IdSetBuf;
     ///
-    /// assert!(IdSetBuf::new().is_empty());
+    /// let mut primes = IdSetBuf::new();
+    /// for prime in [2, 3, 5, 7] {
+    ///     primes.insert(prime)?;
+    /// }
+    /// assert_eq!(primes.len(), 4);
+    /// # Ok::<(), bitpacking::set::Error>(())
     /// ```
     pub fn new() -> IdSetBuf {
         IdSetBuf::default()

@@ -232,9 +232,34 @@ static void by_hand()
     EXPECT((id_set::from_range(0, 268435456) ^ id_set{5}).size() == 268435455);
 }
 
+// The steps of the program on the first page of CRoaring, for C++.
+static void first_page()
+{
+    id_set r1;
+    for (std::uint32_t i = 100; i < 1000; i++)
+        r1 |= id_set{i};
+    EXPECT(r1.contains(500) && r1.size() == 900 && r1 == id_set::from_range(100, 1000));
+    const id_set r2{1, 2, 3, 5, 6};
+    const std::uint32_t values[] = {2, 3, 4};
+    const id_set r3 = id_set::pack(values);
+    EXPECT(id_set::pack(r1.unpack()) == r1 && id_set(r3) == r3 && id_set(values, values + 3) == r3);
+    id_set all = r1 | r2;
+    all |= r3;
+    EXPECT(all == id_set::combine(BITPACKING_OR, std::vector<id_set_view>{r1, r2, r3}) && all.size() == 906);
+    EXPECT((r1 & r2).empty() && (r2 & r3) == id_set{2, 3});
+    const std::vector<std::uint8_t> stored(r1.bytes(), r1.bytes() + r1.bytes_len());
+    const id_set t = id_set::open(stored);
+    std::size_t counter = 0;
+    for (id_set::const_iterator i = t.begin(); i != t.end(); i++)
+        ++counter;
+    EXPECT(t == r1 && counter == t.size());
+    EXPECT(*id_set{2, 3, 4, 7, 8}.lower_bound(4) == 4 && *id_set{2, 3, 4, 7, 8}.lower_bound(5) == 7);
+}
+
 int main()
 {
     by_hand();
+    first_page();
     for (int turn = 0; turn < 60 && failed == 0; turn++) {
         const ids one = any(), other = any();
         const id_set set(one.begin(), one.end());
