@@ -1,8 +1,8 @@
 #!/usr/bin/env python3
 """Reads what CRoaring writes, and damaged texts of it, by `IdSetBuf::from_roaring` and by the decoders of vectors/, and compares these: random sets, as
-CRoaring makes and combines them, optimized, shrunk or neither. What the model of vectors/ writes has to be what CRoaring writes of the same ids, and
-`roaring_len` how many bytes. It needs libroaring.so.0 (libroaring0 of Debian) and cargo, and is left out without them. `--sets` and a number is how
-many sets there are, else 300.
+CRoaring makes and combines them, optimized, shrunk or neither. So are the files that the library in Go has for its tests. What `to_roaring` and
+the model of vectors/ write has to be what CRoaring writes of the same ids. It needs libroaring.so.0 (libroaring0 of Debian), these files and cargo, and
+is left out without them. `--sets` and a number is how many sets there are, else 300.
 The last line is 'N passed, M failed'.
 """
 import ctypes
@@ -17,7 +17,7 @@ import by_cargo
 from common import ROOT, reported, run, source, words
 
 OUT = f"{ROOT}/out/roaring"
-LIBRARY = "libroaring.so.0"
+LIBRARY, FILES = "libroaring.so.0", "/usr/share/gocode/src/github.com/RoaringBitmap/roaring/testdata"
 KEYS = [range(5), range(65_530, 65_536), range(65_536)]
 RANGE, BITMAP = [ctypes.c_uint64, ctypes.c_uint64], ctypes.c_void_p
 # By the name of a function of CRoaring: what it returns, and what it is given.
@@ -31,6 +31,7 @@ CALLS = {
     "to_uint32_array": (None, BITMAP, ctypes.c_void_p),
     "portable_size_in_bytes": (ctypes.c_size_t, BITMAP),
     "portable_serialize": (ctypes.c_size_t, BITMAP, ctypes.c_char_p),
+    "portable_deserialize_safe": (BITMAP, ctypes.c_char_p, ctypes.c_size_t),
     **{name: (BITMAP, BITMAP, BITMAP) for name in ["and", "or", "xor", "andnot"]},
 }
 
@@ -69,13 +70,21 @@ class Roaring:
         size = self.call("portable_serialize", bitmap, found)
         return found.raw[:size]
 
-    def optimized_len(self, ids):
-        """How many bytes are written of ids after `run_optimize`."""
+    def optimized(self, ids):
+        """What is written of ids after `run_optimize`."""
         made = self.of(ids)
         self.call("run_optimize", made)
-        size = self.call("portable_size_in_bytes", made)
+        text = self.text(made)
         self.call("free", made)
-        return size
+        return text
+
+    def files(self):
+        """What the files have, with the ids that CRoaring reads; those whose names say that readers crashed have none."""
+        for name in sorted(os.listdir(FILES)):
+            with open(f"{FILES}/{name}", "rb") as file:
+                text = file.read()
+            made = None if name.startswith("crash") else self.call("portable_deserialize_safe", text, len(text))
+            yield text, self.ids(made) if made else "a fault"
 
     def numbers(self):
         """The numbers of a container: few, about 4,096, runs, many, the last ones, one run, or in steps."""
@@ -145,10 +154,8 @@ def checks(count):
         ids, text = roaring.ids(made), roaring.text(made)
         roaring.call("free", made)
         given += [(text, ids), *((roaring.damaged(text), None) for _ in range(4))]
-        plain = roaring.of(ids)
-        roaring.call("run_optimize", plain)
-        yield f"what is written of set {index}", None if names["encode_roaring"](ids) == roaring.text(plain) else text[:80].hex()
-        roaring.call("free", plain)
+        yield f"what is written of set {index}", None if names["encode_roaring"](ids) == roaring.optimized(ids) else text[:80].hex()
+    given += roaring.files()
     lines = "".join(f"{text.hex()}\n" for text, _ in given)
     for copy in ["", "1"]:
         env = dict(os.environ, **({"BITPACKING_FIRST_COPY": "1"} if copy else {}))
@@ -159,20 +166,19 @@ def checks(count):
             if line.startswith("fault"):
                 read = line
             else:
-                found_bytes, found_len = line.split()
-                read = answer_of(names["decode_set"], number_of, bytes.fromhex(found_bytes))
-                size = roaring.optimized_len(read)
-                yield f"length of bitmap {text[:40].hex()}", None if int(found_len) == size else f"{found_len}, and not {size}"
-            yield f"bitmap {text[:40].hex()} of {len(text)} bytes", None if read == right and ids in (
-                None,
-                right,
-            ) else f"{str(read)[:60]}, and not {str(right)[:60]}"
+                found_bytes, written = map(bytes.fromhex, line.split())
+                read = answer_of(names["decode_set"], number_of, found_bytes)
+                yield f"what is written of bitmap {text[:40].hex()}", None if written == roaring.optimized(read) else written[:80].hex()
+            wanted = ids in (None, right) or (ids == "a fault" and line.startswith("fault"))
+            yield f"bitmap {text[:40].hex()} of {len(text)} bytes", None if read == right and wanted else f"{str(read)[:60]}, and not {str(right)[:60]}"
 
 
 def main():
     asked = words("--sets")
     count = int(asked[asked.index("--sets") + 1]) if "--sets" in asked else 300
-    return reported("roaring.py", lambda: checks(count), "cargo", others=[] if library() else [LIBRARY])
+    return reported(
+        "roaring.py", lambda: checks(count), "cargo", others=[*([] if library() else [LIBRARY]), *([] if os.path.isdir(FILES) else [FILES])]
+    )
 
 
 if __name__ == "__main__":

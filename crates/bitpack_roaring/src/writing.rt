@@ -110,7 +110,7 @@ fn write_containers(
     let mut position = 0;
     let mut from = 0;
     while position < chunks.len() {
-        let part = part_at(set, &chunks, position, from);
+        let part = part_at(&chunks, position, from);
         let run = test_bit(flags, container);
         write_entry(container, part.key, part.count, entries);
         write_offset(offsets, container, start + at, starts);

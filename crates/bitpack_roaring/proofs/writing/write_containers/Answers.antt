@@ -28,13 +28,13 @@ loop-position-init c =
 pub overflow_add-from : goal.overflow_add-from
 overflow_add-from c =
     let few = ids_few c.args.set.now in
-    let next = c.part_at-part.ensures.part.next.few in
+    let next = (c.part_at-part.ensures.part (ids c.args.set.now) c.loop-position.invariant.at).next.few in
     omega (arith, c.part_at-part.ensures.from)
 
 pub write_part-at-requires-clause-run : goal.write_part-at-requires-clause-run
 write_part-at-requires-clause-run c =
     let set = c.chunks_of-chunks.result in
-    let part = c.part_at-part.ensures.part in
+    let part = c.part_at-part.ensures.part (ids c.args.set.now) c.loop-position.invariant.at in
     let is = ap (λ (n : ℕ). parts 65536 (ids_from set n)) (sym c.part_at-part.ensures.begin) ∙ part.parts_are in
     c.test_bit-run.ensures ∙ flag_is _ _ (parts 65536 (ids_from set c.part_at-part.result.end)) c.part_at-part.result.key (numbers_of_part set c.part_at-part.result) _ _ _ _ _ _ _ _ c.loop-position.invariant.so is
 
@@ -42,7 +42,7 @@ pub loop-position-preserved : goal.loop-position-preserved
 loop-position-preserved c =
     let all : List ℕ = ids c.args.set.now in
     let set = c.chunks_of-chunks.result in
-    let part = c.part_at-part.ensures.part in
+    let part = c.part_at-part.ensures.part (ids c.args.set.now) c.loop-position.invariant.at in
     let inv = c.loop-position.invariant in
     let later : List ℕ = ids_from set c.part_at-part.result.end in
     let xs : List ℕ = numbers_of_part set c.part_at-part.result in
