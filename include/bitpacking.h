@@ -462,6 +462,9 @@ ptrdiff_t bitpacking_set_size(const uint32_t *ids, size_t ids_len, size_t *posit
  * itself, if the set has it. */
 size_t bitpacking_set_rank(const bitpacking_set *view, uint32_t target);
 
+/* Returns how many ids are from low to high, both included. */
+size_t bitpacking_set_count_between(const bitpacking_set *view, uint32_t low, uint32_t high);
+
 /* Unpacks the ids from position `from` on, as many as there are and as fit, and returns how many these are: 0 from the number of ids on. Those in
  * the buffer after them are unchanged. */
 ptrdiff_t bitpacking_set_slice(const bitpacking_set *view, size_t from, uint32_t *ids, size_t ids_len);

@@ -94,22 +94,20 @@ Datum idset_max(PG_FUNCTION_ARGS)
     return id_at(fcinfo, &set, bitpacking_set_len(&set) - 1);
 }
 
-/* Of the ids from one number to another, both included: the position of the first, and how many they are. */
-static size_t between(FunctionCallInfo fcinfo, const bitpacking_set *set, size_t *from)
+/* How many ids are from one number to another, both included. */
+static size_t between(FunctionCallInfo fcinfo, const bitpacking_set *set)
 {
-    int64 low = PG_GETARG_INT64(1), high = PG_GETARG_INT64(2);
+    int64 low = Max(PG_GETARG_INT64(1), 0), high = Min(PG_GETARG_INT64(2), UINT32_MAX);
 
-    *from = rank_of(set, low);
-    return low > high ? 0 : rank_of(set, Min(high, UINT32_MAX) + 1) - *from;
+    return low > high ? 0 : bitpacking_set_count_between(set, (uint32)low, (uint32)high);
 }
 
 PG_FUNCTION_INFO_V1(idset_count_between);
 Datum idset_count_between(PG_FUNCTION_ARGS)
 {
     bitpacking_set set = opened_argument(fcinfo, 0);
-    size_t from;
 
-    PG_RETURN_INT64((int64)between(fcinfo, &set, &from));
+    PG_RETURN_INT64((int64)between(fcinfo, &set));
 }
 
 /* The ids at some positions, as a set. */
@@ -127,9 +125,8 @@ PG_FUNCTION_INFO_V1(idset_range);
 Datum idset_range(PG_FUNCTION_ARGS)
 {
     bitpacking_set set = opened_argument(fcinfo, 0);
-    size_t from, len = between(fcinfo, &set, &from);
 
-    return part(&set, from, len);
+    return part(&set, rank_of(&set, PG_GETARG_INT64(1)), between(fcinfo, &set));
 }
 
 /* The ids from one position to another, both included and counted from 1, as the slice of an array. */

@@ -92,6 +92,9 @@ static void searches(void)
     expect(bitpacking_set_seek(&sets[0], target, &position, &id) == (below < lens[0]), "another end of a set");
     expect(below == lens[0] || (position == below && id == ids[0][below]), "another id is found");
     expect(bitpacking_set_contains(&sets[0], target) == (below < lens[0] && ids[0][below] == target), "another member");
+    expect(bitpacking_set_count_between(&sets[0], 0, target) == below + bitpacking_set_contains(&sets[0], target), "another count up to an id");
+    expect(bitpacking_set_count_between(&sets[0], target, UINT32_MAX) == lens[0] - below, "another count from an id on");
+    expect(bitpacking_set_count_between(&sets[0], target + 1, target) == 0, "a count of limits that are exchanged");
 }
 
 /* A column of as many values as a set has ids: counts of at most `below`, or any numbers of so many bits. */

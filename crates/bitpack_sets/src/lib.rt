@@ -4,6 +4,7 @@
 mod appending;
 mod array;
 mod as_set;
+mod counting;
 mod cursor;
 mod decoding;
 mod directory;

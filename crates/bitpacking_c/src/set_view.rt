@@ -1,6 +1,7 @@
 //! Id sets, opened without a copy: a view in the caller's memory holds the bytes, and that they are a set.
 
-ghost use Rattle.std.specs.Prelude.{◌≡◌, ◌≢◌, [], length, slice_index, None};
+ghost use Rattle.std.specs.Prelude.{◌≡◌, ◌≢◌, ◌&&◌, [], length, nat_le, slice_index, None};
+ghost use Rattle.std.specs.List.{filter};
 ghost use Rattle.bitpack_sets.specs.Faults.{fault};
 ghost use Rattle.bitpack_sets.specs.Opened.{encoding_of, ids};
 ghost use Rattle.bitpack_slices.specs.Reads.{has};
@@ -157,6 +158,15 @@ pub extern "C" fn bitpacking_set_contains(view: &SetView<'_>, id: u32) -> i32
         return 0;
     };
     if set.contains(id) { 1 } else { 0 }
+}
+
+/// How many ids are from `low` to `high`, both included.
+#[unsafe(no_mangle)]
+// claim: c/49 `set_count_between`: as `sets/30`
+pub extern "C" fn bitpacking_set_count_between(view: &SetView<'_>, low: u32, high: u32) -> usize
+    ensures { result ≡ length (filter (λ x. nat_le low x && nat_le x high) (ids_in view.now.bytes.now)) }
+{
+    view.as_set().count_between(low, high)
 }
 
 /// Writes all ids to the front of `ids`, and returns their number. If there is no room for them it returns -3 and writes nothing. The

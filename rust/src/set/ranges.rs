@@ -183,8 +183,12 @@ impl IdSet {
     /// # Ok::<(), bitpacking::set::Error>(())
     /// ```
     pub fn count_between(&self, range: impl RangeBounds<u32>) -> usize {
-        let (first, end) = limits(range);
-        self.below(end).saturating_sub(self.below(first))
+        self.count_within(limits(range))
+    }
+
+    /// How many ids are from a number up to before another.
+    fn count_within(&self, (first, end): (u64, u64)) -> usize {
+        if first < end { self.code().count_between(first as u32, (end - 1) as u32) } else { 0 }
     }
 
     /// Returns whether the set has all ids of a range. Looks into the chunks of both ends alone, and allocates nothing.
@@ -198,7 +202,7 @@ impl IdSet {
     /// ```
     pub fn contains_range(&self, range: impl RangeBounds<u32>) -> bool {
         let (first, end) = limits(range);
-        self.below(end).saturating_sub(self.below(first)) as u64 == end.saturating_sub(first)
+        self.count_within((first, end)) as u64 == end.saturating_sub(first)
     }
 
     /// How many ids are below a number, which may be above the last id.

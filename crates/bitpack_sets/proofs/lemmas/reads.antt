@@ -1,5 +1,6 @@
 -- What is looked up in a set, and its ids from a position on.
 pub mod ChunkReads
+pub mod CountLaws
 pub mod HalfLaws
 pub mod HeldLaws
 pub mod IdsLaws
