@@ -8,7 +8,7 @@ use Rattle.bitpack_slices.proofs.ForCallers.{bounds_rise, flat_len, rising_room}
 use Rattle.bitpack_slices.specs.Bodies.{IsRising, bits, le_bytes}
 use Rattle.bitpack_slices.specs.Runs.{boundaries, bounds_after}
 use Rattle.bitpack_roaring.proofs.BetweenLaws.{between_len}
-use Rattle.bitpack_roaring.specs.inner.Runs.{run_bytes, runs_between}
+use Rattle.bitpack_roaring.specs.inner.Runs.{runs_between}
 use Rattle.bitpack_roaring.specs.Written.{are_runs, container, runs_of, with_first}
 
 -- a number before a run that follows at once
