@@ -1,6 +1,5 @@
 -- The bits that are not as the one before, word by word.
-use Rattle.std.proofs.Common.{◌≡◌, ℕ, ◌+◌, ◌*◌, ◌/◌, ◌%◌, ◌<◌, ◌≤◌, Bool, eqb, List, length, get_or, set, sym, ap, ◌∙◌, arith, inl, inr, subst, get_or-set_other, get_or-set_same}
-use Rattle.std.specs.Int.{bit_at}
+use Rattle.std.proofs.Common.{◌≡◌, ℕ, ◌+◌, ◌*◌, ◌/◌, ◌%◌, ◌<◌, Bool, List, length, get_or, set, sym, ap, ◌∙◌, arith, inl, inr, subst, get_or-set_other, get_or-set_same}
 use Rattle.std.proofs.lemmas.Bool.{cases_eq}
 use Rattle.bitpack_slices.proofs.ForCallers.{IsWordOf, bounds_those, changes, those_same}
 use Rattle.bitpack_slices.specs.Bitmaps.{has_bit}

@@ -1,5 +1,5 @@
 -- Each form of the container.
-use Rattle.std.proofs.Common.{◌≡◌, ◌+◌, ◌*◌, ◌++◌, ◌≤◌, ◌∙◌, List, ap, arith, length, subst, sym, ℕ}
+use Rattle.std.proofs.Common.{◌≡◌, ◌+◌, ◌*◌, ◌++◌, ◌∙◌, List, ap, arith, length, subst, sym, ℕ}
 use Rattle.std.specs.List.{flat_map}
 use Rattle.std.proofs.lemmas.List.{length-map, length-take-le}
 use Rattle.bitpack_groups.proofs.ForCallers.{little_len}

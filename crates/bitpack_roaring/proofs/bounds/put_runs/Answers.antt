@@ -1,5 +1,5 @@
 -- One run more is written.
-use Rattle.std.proofs.Common.{◌≡◌, ◌*◌, ◌+◌, ◌∙◌, arith, drop, refl, take}
+use Rattle.std.proofs.Common.{◌*◌, ◌+◌, ◌∙◌, arith, drop, refl, take}
 use Rattle.bitpack_roaring.proofs.BetweenLaws.{between_len, runs_done, runs_more}
 use Rattle.bitpack_roaring.proofs.bounds.put_runs.Goals as goal
 use Rattle.bitpack_slices.specs.Bodies.{le_bytes}

@@ -1,5 +1,5 @@
 -- The runs of the ids of the chunk, or of its numbers in a bitmap.
-use Rattle.std.proofs.Common.{◌≡◌, ◌+◌, ◌/◌, ◌∙◌, List, ap, arith, length, subst, sym, ℕ}
+use Rattle.std.proofs.Common.{◌+◌, ◌/◌, ◌∙◌, List, ap, arith, length, subst, sym, ℕ}
 use Rattle.bitpack_slices.proofs.ForCallers.{those_are}
 use Rattle.bitpack_slices.specs.Bitmaps.{has_bit}
 use Rattle.bitpack_slices.specs.Bodies.{IsRising}
