@@ -1,8 +1,8 @@
 #!/usr/bin/env python3
 """Reads what CRoaring writes, and damaged texts of it, by `IdSetBuf::from_roaring` and by the decoders of vectors/, and compares these: random sets, as
-CRoaring makes and combines them, optimized, shrunk or neither. What the model of vectors/ writes has to be what CRoaring writes of the same ids, and
-`roaring_len` how many bytes. It needs libroaring.so.0 (libroaring0 of Debian) and cargo, and is left out without them. `--sets` and a number is how
-many sets there are, else 300.
+CRoaring makes and combines them, optimized, shrunk or neither. What the model of vectors/ and `to_roaring` write has to be what CRoaring writes of the
+same ids. It needs libroaring.so.0 (libroaring0 of Debian) and cargo, and is left out without them. `--sets` and a number is how many sets there are,
+else 300.
 The last line is 'N passed, M failed'.
 """
 import ctypes
@@ -69,13 +69,13 @@ class Roaring:
         size = self.call("portable_serialize", bitmap, found)
         return found.raw[:size]
 
-    def optimized_len(self, ids):
-        """How many bytes are written of ids after `run_optimize`."""
+    def optimized(self, ids):
+        """What is written of ids after `run_optimize`."""
         made = self.of(ids)
         self.call("run_optimize", made)
-        size = self.call("portable_size_in_bytes", made)
+        found = self.text(made)
         self.call("free", made)
-        return size
+        return found
 
     def numbers(self):
         """The numbers of a container: few, about 4,096, runs, many, the last ones, one run, or in steps."""
@@ -145,10 +145,7 @@ def checks(count):
         ids, text = roaring.ids(made), roaring.text(made)
         roaring.call("free", made)
         given += [(text, ids), *((roaring.damaged(text), None) for _ in range(4))]
-        plain = roaring.of(ids)
-        roaring.call("run_optimize", plain)
-        yield f"what is written of set {index}", None if names["encode_roaring"](ids) == roaring.text(plain) else text[:80].hex()
-        roaring.call("free", plain)
+        yield f"what is written of set {index}", None if names["encode_roaring"](ids) == roaring.optimized(ids) else text[:80].hex()
     lines = "".join(f"{text.hex()}\n" for text, _ in given)
     for copy in ["", "1"]:
         env = dict(os.environ, **({"BITPACKING_FIRST_COPY": "1"} if copy else {}))
@@ -159,10 +156,10 @@ def checks(count):
             if line.startswith("fault"):
                 read = line
             else:
-                found_bytes, found_len = line.split()
-                read = answer_of(names["decode_set"], number_of, bytes.fromhex(found_bytes))
-                size = roaring.optimized_len(read)
-                yield f"length of bitmap {text[:40].hex()}", None if int(found_len) == size else f"{found_len}, and not {size}"
+                found_set, written = map(bytes.fromhex, line.split())
+                read = answer_of(names["decode_set"], number_of, found_set)
+                wanted = roaring.optimized(read)
+                yield f"what is written of bitmap {text[:40].hex()}", None if written == wanted else f"{written[:40].hex()}, and not {wanted[:40].hex()}"
             yield f"bitmap {text[:40].hex()} of {len(text)} bytes", None if read == right and ids in (
                 None,
                 right,
