@@ -1,10 +1,24 @@
 -- The bits that are not as the one before, word by word.
-use Rattle.std.proofs.Common.{◌≡◌, ℕ, ◌+◌, ◌*◌, ◌/◌, ◌%◌, ◌<◌, Bool, List, length, get_or, set, sym, ap, ◌∙◌, arith, inl, inr, subst, get_or-set_other, get_or-set_same}
+use lib.Bits.{or_comm}
+use mir.Val.{bool_byte}
+use Rattle.std.proofs.Common.{◌≡◌, ℕ, ◌+◌, ◌-◌, ◌*◌, ◌/◌, ◌%◌, ◌^◌, ◌<◌, ◌≤◌, Bool, List, length, get_or, set, bit_or, bit_xor, refl, sym, ap, ◌∙◌, arith, inl, inr, subst, get_or-set_other, get_or-set_same}
+use Rattle.std.specs.Int.{bit_at}
 use Rattle.std.proofs.lemmas.Bool.{cases_eq}
-use Rattle.bitpack_slices.proofs.ForCallers.{IsWordOf, bounds_those, changes, those_same}
+use Rattle.bitpack_slices.proofs.ForCallers.{IsWordOf, before, bounds_those, changes, changes_carry, changes_word, those_same}
 use Rattle.bitpack_slices.specs.Bitmaps.{has_bit}
 use Rattle.bitpack_slices.specs.Operations.{those}
 use Rattle.bitpack_slices.specs.Runs.{boundaries}
+
+-- the first word, and one after another
+pub first_word : (words : List ℕ) → IsWordOf (changes (has_bit words)) 0 (bit_xor (get_or words 0 0) (get_or words 0 0 * 2 ^ 1 % 2 ^ 64))
+first_word words =
+    subst (λ (n : ℕ). IsWordOf (changes (has_bit words)) 0 (bit_xor (get_or words 0 0) n)) (or_comm (get_or words 0 0 * 2 ^ 1 % 2 ^ 64) 0) (changes_word words 0 0 refl)
+
+pub later_word : (words : List ℕ) (i last : ℕ) → 1 ≤ i → last ≡ bit_at (get_or words (i - 1) 0) 63
+    → IsWordOf (changes (has_bit words)) i (bit_xor (get_or words i 0) (bit_or (get_or words i 0 * 2 ^ 1 % 2 ^ 64) last))
+later_word words i last some is =
+    let next : 64 * (i - 1 + 1) ≡ 64 * i = omega arith in
+    changes_word words i last (changes_carry words (i - 1) last is ∙ ap (λ (n : ℕ). bool_byte (before (has_bit words) n)) next)
 
 -- one word more
 pub changes_more : (P : ℕ → Bool) (found : List ℕ) (i v q : ℕ) → i < length found → IsWordOf P i v → ((k : ℕ) → k < i → IsWordOf P k (get_or found k 0)) → q < i + 1

@@ -3,7 +3,7 @@ use Rattle.std.proofs.Common.{◌≡◌, ◌≢◌, ℕ, zero, suc, ◌+◌, ◌
 use Rattle.std.specs.List.{range_with_len}
 use Rattle.std.proofs.lemmas.Bool.{cases_lt, ne_eqb}
 use Rattle.std.proofs.lemmas.List.{drop-drop, drop_all, get_or-drop, get_or-take, length-map, length-take-le, take-append-le, take_all}
-use Rattle.bitpack_slices.proofs.ForCallers.{AreParts, bounds_rise, join_parts, parts_are, parts_join, quads_len, rank_above, rank_le, rank_under, rising_lower, rising_room, rising_top}
+use Rattle.bitpack_slices.proofs.ForCallers.{AreParts, bounds_rise, join_parts, parts_are, parts_join, quads_len, rank_above, rank_le, rank_under, rising_drop, rising_room, rising_top}
 use Rattle.bitpack_slices.specs.Bodies.{IsRising, parts}
 use Rattle.bitpack_slices.specs.Reads.{rank}
 use Rattle.bitpack_slices.specs.Runs.{boundaries}
@@ -20,10 +20,6 @@ use Rattle.bitpack_roaring.specs.inner.Walks.{IsAt, IsPart, numbers_of_part}
 use Rattle.bitpack_roaring.specs.declared.parts.Part.{Part}
 
 -- ---- lists that rise
-
-rising_tail : (low high : ℕ) (xs ys : List ℕ) → IsRising low high (xs ++ ys) → IsRising 0 high ys
-rising_tail low high [] ys r = rising_lower low 0 high ys (omega arith) r
-rising_tail low high (x ∷ xs) ys (a, r) = rising_tail (x + 1) high xs ys r
 
 rising_key : (key : ℕ) (ys : List ℕ) → IsRising 0 (2 ^ 32) ys → key < first_key ys → key < 65536 → IsRising ((key + 1) * 65536) (2 ^ 32) ys
 rising_key key [] r up small = omega arith
@@ -42,18 +38,17 @@ lows_rise key top (y ∷ ys) (a, r) shared =
     let own = shared 0 (omega arith) in
     (omega arith, lows_on key (y + 1) (y % 65536 + 1) top ys r (λ k lt. shared (suc k) (omega arith)) (omega arith) (omega arith))
 
-rising_top_is : (low high : ℕ) (xs : List ℕ) → IsRising low high xs → low ≤ high
-rising_top_is low high [] r = r
-rising_top_is low high (x ∷ xs) (a, r) = let ih = rising_top_is (x + 1) high xs r in omega arith
-
 rising_taken : (n low high : ℕ) (xs : List ℕ) → IsRising low high xs → IsRising low high (take n xs)
-rising_taken zero low high xs r = rising_top_is low high xs r
+rising_taken zero low high xs r = let room = rising_room low high xs r in omega arith
 rising_taken (suc n) low high [] r = r
 rising_taken (suc n) low high (x ∷ xs) (a, r) = (a, rising_taken n (x + 1) high xs r)
 
 drop_front : (xs ys : List ℕ) → drop (length xs) (xs ++ ys) ≡ ys
 drop_front [] ys = refl
 drop_front (x ∷ xs) ys = drop_front xs ys
+
+rising_tail : (high : ℕ) (xs ys : List ℕ) → IsRising 0 high (xs ++ ys) → IsRising 0 high ys
+rising_tail high xs ys r = subst (IsRising 0 high) (drop_front xs ys) (rising_drop 0 high (length xs) (xs ++ ys) r)
 
 pub take_front : (n : ℕ) (xs ys : List ℕ) → n ≡ length xs → take n (xs ++ ys) ≡ xs
 take_front n xs ys e = take-append-le n xs ys (omega arith) ∙ take_all n xs (omega arith)
@@ -93,7 +88,7 @@ of_shared key (y ∷ ys) h =
 
 key_of : (key : ℕ) (xs rest : List ℕ) → 0 < length xs → IsRising 0 65536 xs → first_key (map (λ x. key * 65536 + x) xs ++ rest) ≡ key
 key_of key [] rest h r = absurd (omega arith)
-key_of key (x ∷ xs) rest h (a, r) = let top = rising_top_is (x + 1) 65536 xs r in omega arith
+key_of key (x ∷ xs) rest h (a, r) = let top = rising_room (x + 1) 65536 xs r in omega arith
 
 -- ---- the ids of a chunk, and those after it
 
@@ -169,7 +164,7 @@ parts_split set p end key is r up small =
     let xs : List ℕ = lows_between set p end in
     let front : List ℕ = map (λ x. key * 65536 + x) xs in
     let ys : List ℕ = ids_from set end in
-    let later : IsRising 0 (2 ^ 32) ys = rising_tail 0 (2 ^ 32) front ys (subst (IsRising 0 (2 ^ 32)) is.split r) in
+    let later : IsRising 0 (2 ^ 32) ys = rising_tail (2 ^ 32) front ys (subst (IsRising 0 (2 ^ 32)) is.split r) in
     let ps : List (ℕ × List ℕ) = (key, xs) ∷ parts 65536 ys in
     let least : key + 1 ≤ 65536 = omega arith in
     let are : AreParts 65536 (key + 1) 65536 (parts 65536 ys) = parts_are 65536 (key + 1) 65536 ((key + 1) * 65536) ys (omega arith) (omega arith) (rising_key key ys later up small) in
@@ -180,7 +175,7 @@ parts_split set p end key is r up small =
 
 first_small : (ys : List ℕ) → 0 < length ys → IsRising 0 (2 ^ 32) ys → first_key ys < 65536
 first_small [] h r = absurd (omega arith)
-first_small (y ∷ ys) h (a, r) = let top = rising_top_is (y + 1) (2 ^ 32) ys r in omega arith
+first_small (y ∷ ys) h (a, r) = let top = rising_room (y + 1) (2 ^ 32) ys r in omega arith
 
 pub key_below : (set : Chunks) (p : ℕ) → p < positions set → IsRising 0 (2 ^ 32) (ids_from set p) → first_key (ids_from set p) < 65536
 key_below set p there r = elim (cases_lt 0 set.count) [

@@ -21,10 +21,10 @@ pub(crate) fn count_runs(words: &[u64; 1024], found: &mut [u64; 1024]) -> usize
 pub(crate) fn find_changes(words: &[u64; 1024], found: &mut [u64; 1024])
     ensures { those 65536 (has_bit found.new) ≡ boundaries (those 65536 (has_bit words.now)) }
 {
-    let mut last = 0;
-    for index in 0..1024 {
+    found[0] = words[0] ^ words[0] << 1;
+    // No word waits for the one before, so that the compiler takes several at once.
+    for index in 1..1024 {
         let word = words[index];
-        found[index] = word ^ (word << 1 | last);
-        last = highest_bit(word);
+        found[index] = word ^ (word << 1 | highest_bit(words[index - 1]));
     }
 }
