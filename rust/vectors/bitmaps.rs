@@ -1,16 +1,16 @@
-//! Reads bitmaps in Roaring's portable format, a line of hexadecimal digits for each. Writes the bytes of the set of each and of its bitmap, or the number
-//! of its fault.
+//! Reads bitmaps in Roaring's portable format, a line of hexadecimal digits for each. Writes the bytes of the set of each and those of its bitmap, or the
+//! number of its fault.
 
 use std::io::{self, BufRead, BufWriter, Write};
 
 use bitpacking::set::IdSetBuf;
 
-fn octets(line: &str) -> Option<Vec<u8>> {
-    (0..line.len()).step_by(2).map(|at| u8::from_str_radix(line.get(at..at + 2)?, 16).ok()).collect()
+fn digits(out: &mut impl Write, bytes: &[u8]) -> io::Result<()> {
+    bytes.iter().try_for_each(|byte| write!(out, "{byte:02x}"))
 }
 
-fn digits(bytes: &[u8]) -> String {
-    bytes.iter().map(|byte| format!("{byte:02x}")).collect()
+fn octets(line: &str) -> Option<Vec<u8>> {
+    (0..line.len()).step_by(2).map(|at| u8::from_str_radix(line.get(at..at + 2)?, 16).ok()).collect()
 }
 
 fn main() -> io::Result<()> {
@@ -19,9 +19,10 @@ fn main() -> io::Result<()> {
         let bytes = octets(&line?).ok_or(io::ErrorKind::InvalidInput)?;
         match IdSetBuf::from_roaring(&bytes) {
             Ok(set) => {
-                let bitmap = set.to_roaring().map_err(|_| io::ErrorKind::OutOfMemory)?;
-                assert_eq!(set.roaring_len(), bitmap.len());
-                writeln!(out, "{} {}", digits(set.as_bytes()), digits(&bitmap))?;
+                digits(&mut out, set.as_bytes())?;
+                write!(out, " ")?;
+                digits(&mut out, &set.to_roaring().map_err(|_| io::ErrorKind::OutOfMemory)?)?;
+                writeln!(out)?;
             }
             Err(fault) => writeln!(out, "fault {}", fault.number())?,
         }

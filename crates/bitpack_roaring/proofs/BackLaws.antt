@@ -1,24 +1,23 @@
 -- What is read of a bitmap is what it was written of.
-use Rattle.std.proofs.Common.{◌≡◌, ℕ, zero, suc, ◌+◌, ◌-◌, ◌*◌, ◌/◌, ◌^◌, ◌<◌, ◌≤◌, Bool, true, false, ◌&&◌, cond, eqb, leb, ltb, List, [], ◌∷◌, ◌++◌, map, length, take, drop, get_or, refl, sym, ap, ◌∙◌, arith, subst, inl, inr, add-one, append_assoc, append-nil, length-append}
+use Rattle.std.proofs.Common.{◌≡◌, ℕ, ◌+◌, ◌-◌, ◌*◌, ◌/◌, ◌^◌, ◌<◌, ◌≤◌, Bool, true, false, ◌&&◌, cond, eqb, leb, ltb, List, [], ◌∷◌, ◌++◌, length, take, drop, refl, sym, ap, ◌∙◌, arith, subst, inl, inr, append_assoc, length-append}
 use Rattle.std.specs.Int.{bit_at}
-use Rattle.std.specs.List.{concat, flat_map, list_any}
+use Rattle.std.specs.List.{concat}
 use Rattle.std.proofs.lemmas.Bool.{cases_lt, le-leb, le-ltb, lt-leb, lt-ltb}
-use Rattle.std.proofs.lemmas.List.{length-map, length-take-le, take_all}
+use Rattle.std.proofs.lemmas.List.{length-map, length-take-le}
 use Rattle.bitpack_groups.proofs.ForCallers.{little_len}
 use Rattle.bitpack_groups.specs.Numbers.{short_at}
-use Rattle.bitpack_slices.proofs.ForCallers.{AreParts, join_parts, parts_are}
+use Rattle.bitpack_slices.proofs.ForCallers.{AreParts, parts_are}
 use Rattle.bitpack_slices.specs.Bodies.{IsRising, bits, le_bytes, parts}
 use Rattle.bitpack_slices.specs.Reads.{has}
-use Rattle.bitpack_roaring.proofs.ContainerBack.{bit_is, bits_small, container_back}
+use Rattle.bitpack_roaring.proofs.ContainerBack.{bit_is, bits_small}
 use Rattle.bitpack_roaring.proofs.CookieBack as cookies
 use Rattle.bitpack_roaring.proofs.CookieBack.{cookie_by}
 use Rattle.bitpack_roaring.proofs.FlagLaws.{flags_rise}
-use Rattle.bitpack_roaring.proofs.LayoutLaws.{IsChunk, bodies_cut, chunk_is, chunk_of, cut_at, entries_cut, flag_at, no_run_at, run_some, starts_cut, starts_size}
+use Rattle.bitpack_roaring.proofs.LayoutLaws.{IsChunk, bodies_cut, chunk_is, chunk_of, cut_at, entries_cut, flag_at, no_run_at, run_some, starts_size}
 use Rattle.bitpack_roaring.proofs.MeasureSteps.{cookie_len, entries_len}
-use Rattle.bitpack_roaring.proofs.PlaceLaws.{bytes_bits, part_here, short_here}
-use Rattle.bitpack_roaring.proofs.RunCounts.{container_len}
+use Rattle.bitpack_roaring.proofs.PlaceLaws.{bytes_bits, short_here}
 use Rattle.bitpack_roaring.specs.Roaring as read
-use Rattle.bitpack_roaring.specs.Written.{are_runs, container, cookie, flagged, roaring, runs_of, starts}
+use Rattle.bitpack_roaring.specs.Written.{are_runs, container, cookie, flagged, roaring}
 use Rattle.bitpack_roaring.specs.inner.Sizes.{bodies, entries, has_run, lists, starts_of}
 
 -- a part within the second or the third of three parts

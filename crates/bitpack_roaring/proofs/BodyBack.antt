@@ -1,44 +1,34 @@
 -- The containers of a bitmap that was written are read.
-use Rattle.std.proofs.Common.{◌≡◌, ℕ, zero, suc, ◌+◌, ◌-◌, ◌*◌, ◌/◌, ◌^◌, ◌<◌, ◌≤◌, Bool, true, false, cond, leb, List, [], ◌∷◌, ◌++◌, map, length, take, drop, refl, sym, ap, ◌∙◌, arith, add-one, append_assoc, append-nil, length-append}
-use Rattle.std.specs.List.{concat, flat_map, range_with_len}
+use Rattle.std.proofs.Common.{◌≡◌, ℕ, zero, suc, ◌+◌, ◌*◌, ◌^◌, ◌<◌, ◌≤◌, Bool, true, false, cond, leb, List, [], ◌∷◌, ◌++◌, map, length, take, drop, refl, sym, ap, ◌∙◌, arith, add-one, append_assoc, append-nil, length-append}
+use Rattle.std.specs.List.{concat, range_with_len}
 use Rattle.std.proofs.lemmas.List.{take_all, take_more}
 use Rattle.std.proofs.lemmas.List.FromFn.{map-range_with_len_more}
-use Rattle.bitpack_groups.proofs.ForCallers.{little_len}
 use Rattle.bitpack_groups.specs.Numbers.{short_at}
-use Rattle.bitpack_slices.proofs.ForCallers.{bounds_rise, join, join_parts, rising_room}
-use Rattle.bitpack_slices.specs.Bodies.{IsRising, bits, le_bytes, parts}
+use Rattle.bitpack_slices.proofs.ForCallers.{join, join_parts}
+use Rattle.bitpack_slices.specs.Bodies.{IsRising, le_bytes}
 use Rattle.bitpack_slices.specs.Runs.{boundaries}
-use Rattle.bitpack_roaring.proofs.BackLaws.{body_there, chunks, count, count_is, cut, head_size, key_is, offs, own, own_count, own_run}
+use Rattle.bitpack_roaring.proofs.BackLaws.{body_there, chunks, count, count_is, head_size, key_is, offs, own, own_count, own_run}
 use Rattle.bitpack_roaring.proofs.ContainerBack.{container_back}
 use Rattle.bitpack_roaring.proofs.LayoutLaws.{bodies_cut, chunk_of}
 use Rattle.bitpack_roaring.proofs.PlaceLaws.{part_here, short_here}
-use Rattle.bitpack_roaring.proofs.RunCounts.{container_len, runs_counted}
+use Rattle.bitpack_roaring.proofs.RunCounts.{container_len, runs_bounds, runs_counted}
+use Rattle.bitpack_roaring.proofs.WrittenLaws.{bounds_room, container_runs}
 use Rattle.bitpack_roaring.specs.Roaring as read
 use Rattle.bitpack_roaring.specs.Written.{are_runs, container, cookie, roaring, runs_of}
+use Rattle.bitpack_roaring.specs.inner.Runs.{run_bytes, runs_between}
 use Rattle.bitpack_roaring.specs.inner.Sizes.{bodies, entries, lists}
-
--- the bytes of runs
-abbrev run_bytes : List (ℕ × ℕ) → List ℕ
-run_bytes runs = flat_map (λ run. le_bytes 2 run.0 ++ le_bytes 2 run.1) runs
-
-pub container_run : (xs : List ℕ) → are_runs xs ≡ true → container xs ≡ le_bytes 2 (length (runs_of xs)) ++ run_bytes (runs_of xs)
-unfolding container
-container_run xs e = ap (λ (b : Bool). cond b (le_bytes 2 (length (runs_of xs)) ++ run_bytes (runs_of xs)) (cond (leb (length xs) 4096) (flat_map (le_bytes 2) xs) (le_bytes 8192 (bits xs)))) e
-
-few_runs : (xs : List ℕ) → IsRising 0 65536 xs → length (runs_of xs) < 65536
-few_runs xs r =
-    let counted = runs_counted xs r in
-    let room = rising_room 0 65536 (boundaries xs) (bounds_rise xs r) in
-    omega arith
 
 -- the size of a container that begins here
 sized : (xs bytes front rest : List ℕ) (at : ℕ) → IsRising 0 65536 xs → bytes ≡ front ++ (container xs ++ rest) → length front ≡ at → (b : Bool) → are_runs xs ≡ b
     → cond b (2 + 4 * short_at 2 (drop at bytes) 0) (cond (leb (length xs) 4096) (2 * length xs) 8192) ≡ cond b (2 + 4 * length (runs_of xs)) (cond (leb (length xs) 4096) (2 * length xs) 8192)
 sized xs bytes front rest at r is long true e =
-    let few = few_runs xs r in
-    let own : List ℕ = le_bytes 2 (length (runs_of xs)) in
-    ap (λ (n : ℕ). 2 + 4 * n) (short_here 2 at 0 (length (runs_of xs)) bytes front (run_bytes (runs_of xs) ++ rest) (omega arith)
-    (is ∙ ap (λ (l : List ℕ). front ++ (l ++ rest)) (container_run xs e) ∙ ap (λ (l : List ℕ). front ++ l) (append_assoc own (run_bytes (runs_of xs)) rest)) (omega arith))
+    let runs : List (ℕ × ℕ) = runs_between (boundaries xs) in
+    let counted = runs_counted xs r in
+    let same = ap length (runs_bounds xs r) in
+    let room = bounds_room xs r e in
+    ap (λ (n : ℕ). 2 + 4 * n) (short_here 2 at 0 (length runs) bytes front (run_bytes runs ++ rest) (omega arith)
+    (is ∙ ap (λ (l : List ℕ). front ++ (l ++ rest)) (container_runs xs r e) ∙ ap (λ (l : List ℕ). front ++ l) (append_assoc (le_bytes 2 (length runs)) (run_bytes runs) rest)) (omega arith)
+    ∙ sym same)
 sized xs bytes front rest at r is long false e = refl
 
 module _ (ids : List ℕ) (r : IsRising 0 (2 ^ 32) ids) where

@@ -1,8 +1,7 @@
 -- The numbers of a container are those that it was written of.
-use Rattle.std.proofs.Common.{◌≡◌, ℕ, zero, suc, ◌+◌, ◌-◌, ◌*◌, ◌/◌, ◌%◌, ◌^◌, ◌<◌, ◌≤◌, Bool, true, false, cond, eqb, leb, List, [], ◌∷◌, ◌++◌, length, drop, take, refl, sym, ap, ◌∙◌, arith, subst, append-nil, ◌&&◌}
+use Rattle.std.proofs.Common.{◌≡◌, ℕ, ◌+◌, ◌-◌, ◌*◌, ◌/◌, ◌%◌, ◌^◌, ◌<◌, ◌≤◌, Bool, true, false, eqb, List, [], ◌∷◌, ◌++◌, length, refl, sym, ap, ◌∙◌, arith, inl, inr, subst, append-nil}
 use Rattle.std.specs.Int.{bit_at}
-use Rattle.std.specs.List.{flat_map, range_with_len}
-use Rattle.std.proofs.lemmas.Bool.{le-leb}
+use Rattle.std.specs.List.{range_with_len}
 use Rattle.std.proofs.lemmas.Bool.Decides.{leb_tells}
 use Rattle.std.proofs.lemmas.List.{drop_at}
 use Rattle.bitpack_groups.proofs.ForCallers.{little_len}
@@ -12,11 +11,12 @@ use Rattle.bitpack_slices.specs.Operations.{those}
 use Rattle.bitpack_slices.specs.Reads.{has}
 use Rattle.bitpack_slices.specs.Runs.{boundaries, run_numbers}
 use Rattle.bitpack_slices.specs.Slices.{number_of, ones_from, pairs_of}
+use Rattle.bitpack_roaring.proofs.ContainerLaws.{of_array, of_bits, of_runs}
 use Rattle.bitpack_roaring.proofs.PlaceLaws.{bytes_bits}
-use Rattle.bitpack_roaring.proofs.RunCounts.{runs_bounds}
-use Rattle.bitpack_roaring.specs.inner.Runs.{runs_between}
+use Rattle.bitpack_roaring.proofs.WrittenLaws.{container_array, container_bits, container_runs}
+use Rattle.bitpack_roaring.specs.inner.Runs.{run_bytes, runs_between}
 use Rattle.bitpack_roaring.specs.Roaring.{bounds_in, bounds_of, numbers_of}
-use Rattle.bitpack_roaring.specs.Written.{are_runs, container, runs_of}
+use Rattle.bitpack_roaring.specs.Written.{are_runs, container}
 
 -- ---- bits
 
@@ -41,9 +41,6 @@ bytes_back k xs r =
 
 -- ---- runs
 
-run_bytes : List (ℕ × ℕ) → List ℕ
-run_bytes runs = flat_map (λ run. le_bytes 2 run.0 ++ le_bytes 2 run.1) runs
-
 -- boundaries with the end of the last run
 unfoldable pub closed : List ℕ → List ℕ
 closed [] = []
@@ -66,7 +63,7 @@ unfolding pairs_of bounds_of
 none_back = refl
 
 bounds_closed : (low : ℕ) (bounds : List ℕ) → IsRising low 65536 bounds → bounds_of (pairs_of (run_bytes (runs_between bounds))) ≡ closed bounds
-unfolding runs_between closed run_bytes
+unfolding runs_between closed
 bounds_closed low [] r = none_back
 bounds_closed low (begin ∷ []) (a, top) =
     let last : begin + (65535 - begin) + 1 ≡ 65536 = omega arith in
@@ -85,26 +82,21 @@ closed_numbers (begin ∷ []) = append-nil (range_with_len begin (65536 - begin)
 closed_numbers (begin ∷ end ∷ bounds) = ap (λ (l : List ℕ). range_with_len begin (end - begin) ++ l) (closed_numbers bounds)
 
 -- the boundaries that are read of numbers that were written as runs
-pub bounds_read : (xs : List ℕ) → IsRising 0 65536 xs → bounds_in (le_bytes 2 (length (runs_of xs)) ++ flat_map (λ run. le_bytes 2 run.0 ++ le_bytes 2 run.1) (runs_of xs)) ≡ closed (boundaries xs)
-unfolding run_bytes
-bounds_read xs r =
-    ap (λ (l : List ℕ). bounds_of (pairs_of l)) (drop_at (le_bytes 2 (length (runs_of xs))) (run_bytes (runs_of xs)) 2 (little_len 2 (length (runs_of xs))))
-    ∙ ap (λ (runs : List (ℕ × ℕ)). bounds_of (pairs_of (run_bytes runs))) (runs_bounds xs r) ∙ bounds_closed 0 (boundaries xs) (bounds_rise xs r)
+pub bounds_read : (xs : List ℕ) → IsRising 0 65536 xs → are_runs xs ≡ true → bounds_in (container xs) ≡ closed (boundaries xs)
+bounds_read xs r is =
+    let runs : List (ℕ × ℕ) = runs_between (boundaries xs) in
+    ap bounds_in (container_runs xs r is) ∙ ap (λ (l : List ℕ). bounds_of (pairs_of l)) (drop_at (le_bytes 2 (length runs)) (run_bytes runs) 2 (little_len 2 (length runs)))
+    ∙ bounds_closed 0 (boundaries xs) (bounds_rise xs r)
 
 -- ---- each form
 
-module _ (xs : List ℕ) (r : IsRising 0 65536 xs) where
-  container_is : (run few : Bool) → List ℕ
-  container_is run few = cond run (le_bytes 2 (length (runs_of xs)) ++ flat_map (λ run. le_bytes 2 run.0 ++ le_bytes 2 run.1) (runs_of xs)) (cond few (flat_map (le_bytes 2) xs) (le_bytes 8192 (bits xs)))
+each_back : (xs : List ℕ) (run : Bool) → IsRising 0 65536 xs → are_runs xs ≡ run → numbers_of run (length xs) (container xs) ≡ xs
+unfolding numbers
+each_back xs true r is = of_runs (length xs) (container xs) ∙ ap run_numbers (bounds_read xs r is) ∙ closed_numbers (boundaries xs) ∙ runs_back xs r
+each_back xs false r is = elim (leb_tells (length xs) 4096) [
+  | inl (e, few) ↦ of_array (length xs) (container xs) e ∙ ap pairs_of (container_array xs is few) ∙ numbers_back 0 xs r
+  | inr (e, many) ↦ of_bits (length xs) (container xs) e ∙ ap (λ (l : List ℕ). ones_from (number_of l) 0 65536) (container_bits xs is many) ∙ bytes_back 8192 xs r
+]
 
-  each_back : (run : Bool) (few : Bool) → leb (length xs) 4096 ≡ few → numbers_of run (length xs) (container_is run few) ≡ xs
-  unfolding numbers_of container_is numbers
-  each_back true few e = ap run_numbers (bounds_read xs r ∙ refl) ∙ closed_numbers (boundaries xs) ∙ runs_back xs r
-  each_back false true e =
-      ap (λ (b : Bool). cond b (pairs_of (flat_map (le_bytes 2) xs)) (ones_from (number_of (flat_map (le_bytes 2) xs)) 0 65536)) e ∙ numbers_back 0 xs r
-  each_back false false e =
-      ap (λ (b : Bool). cond b (pairs_of (le_bytes 8192 (bits xs))) (ones_from (number_of (le_bytes 8192 (bits xs))) 0 65536)) e ∙ bytes_back 8192 xs r
-
-  pub container_back : numbers_of (are_runs xs) (length xs) (container xs) ≡ xs
-  unfolding container container_is
-  container_back = each_back (are_runs xs) (leb (length xs) 4096) refl
+pub container_back : (xs : List ℕ) → IsRising 0 65536 xs → numbers_of (are_runs xs) (length xs) (container xs) ≡ xs
+container_back xs r = each_back xs (are_runs xs) r refl

@@ -1,5 +1,5 @@
 -- What the cookie, the count and the flags say is read where they were written.
-use Rattle.std.proofs.Common.{◌≡◌, ℕ, zero, suc, ◌+◌, ◌-◌, ◌*◌, ◌/◌, ◌%◌, ◌^◌, ◌<◌, ◌≤◌, Bool, true, false, cond, eqb, leb, List, [], ◌∷◌, ◌++◌, length, drop, get_or, lit<, refl, sym, ap, ◌∙◌, arith, append_assoc, length-append}
+use Rattle.std.proofs.Common.{◌≡◌, ℕ, ◌+◌, ◌-◌, ◌/◌, ◌%◌, ◌^◌, ◌<◌, ◌≤◌, Bool, true, false, cond, eqb, leb, List, [], ◌∷◌, ◌++◌, get_or, lit<, refl, ap, ◌∙◌, arith, append_assoc, length-append}
 use Rattle.std.specs.Int.{bit_at}
 use Rattle.bitpack_groups.proofs.ForCallers.{little_len}
 use Rattle.bitpack_groups.specs.Numbers.{short_at}

@@ -6,15 +6,15 @@ use Rattle.std.proofs.lemmas.Bool.{le-leb, le-ltb, leb-true, lt-leb, lt-ltb}
 use Rattle.std.proofs.lemmas.Bool.Decides.{leb_tells}
 use Rattle.std.proofs.lemmas.List.{take_all}
 use Rattle.bitpack_groups.specs.Numbers.{short_at}
-use Rattle.bitpack_slices.proofs.ForCallers.{bounds_rise, no_fall, rising_room}
+use Rattle.bitpack_slices.proofs.ForCallers.{bounds_rise, no_fall}
 use Rattle.bitpack_slices.specs.Bodies.{IsRising, le_bytes}
 use Rattle.bitpack_slices.specs.Runs.{boundaries}
 use Rattle.bitpack_slices.specs.Slices.{first_fall, pairs_of}
 use Rattle.bitpack_slices.specs.declared.set_error.SetError.{SetError}
-use Rattle.bitpack_slices.specs.declared.set_error.SetError.TheVariants.{BadBody, BadKey, BadNumber, BadOffset, BadVersion, NotSorted, Short, Trailing}
+use Rattle.bitpack_slices.specs.declared.set_error.SetError.TheVariants.{BadBody, BadNumber, BadVersion, NotSorted, Short, Trailing}
 use Rattle.bitpack_sets.proofs.ForCallers.{first_more, first_start}
 use Rattle.bitpack_roaring.proofs.BackLaws.{are, body_there, chunks, cookie_size, count, count_is, any, cut, few, four_is, head_size, key_is, keys_are, layout, offs, offs_are, own, own_count, own_run, runs_are, start, third}
-use Rattle.bitpack_roaring.proofs.BodyBack.{body_is, container_run, front, own_size, start_is}
+use Rattle.bitpack_roaring.proofs.BodyBack.{body_is, front, own_size, start_is}
 use Rattle.bitpack_roaring.proofs.ContainerBack.{bounds_read, closed, container_back}
 use Rattle.bitpack_roaring.proofs.ContainerLaws.{of_array}
 use Rattle.bitpack_roaring.proofs.FaultSteps as steps
@@ -39,8 +39,7 @@ closed_rise low (begin ∷ []) (a, top) = both (leb low begin) _ (le-leb low beg
 closed_rise low (begin ∷ end ∷ bounds) (a, (b, r)) = both (leb low begin) _ (le-leb low begin a) (both (leb (begin + 1) end) _ (le-leb (begin + 1) end b) (closed_rise (end + 1) bounds r))
 
 runs_apart : (xs : List ℕ) → IsRising 0 65536 xs → are_runs xs ≡ true → are_apart (read.bounds_in (container xs)) ≡ true
-runs_apart xs r e =
-    ap (λ (l : List ℕ). are_apart (read.bounds_in l)) (container_run xs e) ∙ ap are_apart (bounds_read xs r) ∙ closed_rise 0 (boundaries xs) (bounds_rise xs r)
+runs_apart xs r e = ap are_apart (bounds_read xs r e) ∙ closed_rise 0 (boundaries xs) (bounds_rise xs r)
 
 fault_none : (m position : ℕ) (xs body : List ℕ) (run : Bool) → IsRising 0 65536 xs → read.numbers_of run (length xs) body ≡ xs → (run ≡ true → are_apart (read.bounds_in body) ≡ true)
     → numbers_fault m position run (length xs) body ≡ None
@@ -192,10 +191,12 @@ module _ (ids : List ℕ) (r : IsRising 0 (2 ^ 32) ids) where
   unfolding cookie_fault
   cookie_none true e =
       let size : length (cookie (lists (chunks ids r))) ≡ 4 + (count ids r + 7) / 8 = cookie_size ids r ∙ ap (λ (b : Bool). cond b (4 + (count ids r + 7) / 8) 8) e in
-      let room = cookie_room in
-      (omega arith, ap (λ (b : Bool). cond b None (cond (eqb (short_at 4 (roaring ids) 0) 12346)
-      (option_or (cond (ltb (length (roaring ids)) 8) (Some Short) None) (cond (leb (read.containers (roaring ids)) 65536) None (Some BadNumber)))
-      (Some (BadVersion (Rattle.std.proofs.Common.get_or (roaring ids) 0 0))))) (runs_are ids r ∙ e))
+      let room = cookie_room in (
+        omega arith,
+        ap (λ (b : Bool). cond b None (cond (eqb (short_at 4 (roaring ids) 0) 12346)
+            (option_or (cond (ltb (length (roaring ids)) 8) (Some Short) None) (cond (leb (read.containers (roaring ids)) 65536) None (Some BadNumber)))
+            (Some (BadVersion (Rattle.std.proofs.Common.get_or (roaring ids) 0 0))))) (runs_are ids r ∙ e),
+      )
   cookie_none false e =
       let size : length (cookie (lists (chunks ids r))) ≡ 8 = cookie_size ids r ∙ ap (λ (b : Bool). cond b (4 + (count ids r + 7) / 8) 8) e in
       let room = cookie_room in
@@ -203,12 +204,14 @@ module _ (ids : List ℕ) (r : IsRising 0 (2 ^ 32) ids) where
       let many = count_is ids r in
       let long : 8 ≤ length (roaring ids) = omega arith in
       let fits : read.containers (roaring ids) ≤ 65536 = omega arith in
-      let other : Option SetError = Some (BadVersion (Rattle.std.proofs.Common.get_or (roaring ids) 0 0)) in
-      (omega arith, ap (λ (b : Bool). cond b None (cond (eqb (short_at 4 (roaring ids) 0) 12346)
-      (option_or (cond (ltb (length (roaring ids)) 8) (Some Short) None) (cond (leb (read.containers (roaring ids)) 65536) None (Some BadNumber))) other)) (runs_are ids r ∙ e)
-      ∙ ap (λ (n : ℕ). cond (eqb n 12346) (option_or (cond (ltb (length (roaring ids)) 8) (Some Short) None) (cond (leb (read.containers (roaring ids)) 65536) None (Some BadNumber))) other) (four_is ids r e)
-      ∙ ap (λ (b : Bool). option_or (cond b (Some Short) None) (cond (leb (read.containers (roaring ids)) 65536) None (Some BadNumber))) (le-ltb (length (roaring ids)) 8 long)
-      ∙ ap (λ (b : Bool). cond b None (Some BadNumber)) (le-leb (read.containers (roaring ids)) 65536 fits))
+      let other : Option SetError = Some (BadVersion (Rattle.std.proofs.Common.get_or (roaring ids) 0 0)) in (
+        omega arith,
+        ap (λ (b : Bool). cond b None (cond (eqb (short_at 4 (roaring ids) 0) 12346)
+            (option_or (cond (ltb (length (roaring ids)) 8) (Some Short) None) (cond (leb (read.containers (roaring ids)) 65536) None (Some BadNumber))) other)) (runs_are ids r ∙ e)
+            ∙ ap (λ (n : ℕ). cond (eqb n 12346) (option_or (cond (ltb (length (roaring ids)) 8) (Some Short) None) (cond (leb (read.containers (roaring ids)) 65536) None (Some BadNumber))) other) (four_is ids r e)
+            ∙ ap (λ (b : Bool). option_or (cond b (Some Short) None) (cond (leb (read.containers (roaring ids)) 65536) None (Some BadNumber))) (le-ltb (length (roaring ids)) 8 long)
+            ∙ ap (λ (b : Bool). cond b None (Some BadNumber)) (le-leb (read.containers (roaring ids)) 65536 fits),
+      )
 
   head_none : head_fault (roaring ids) ≡ None
   unfolding head_fault

@@ -1,13 +1,12 @@
 -- Where the parts of a bitmap are: before one of its containers, this one, and after it.
 use Rattle.std.proofs.Common.{◌≡◌, ℕ, zero, suc, ◌+◌, ◌-◌, ◌*◌, ◌<◌, ◌≤◌, Bool, true, false, ◌||◌, List, [], ◌∷◌, ◌++◌, map, length, take, drop, get_or, refl, sym, ap, ◌∙◌, arith, append_assoc, length-append}
-use Rattle.std.specs.List.{concat, flat_map, list_any}
+use Rattle.std.specs.List.{concat, list_any}
 use Rattle.std.proofs.lemmas.List.{drop_more, take-append-drop}
-use Rattle.bitpack_groups.proofs.ForCallers.{little_len}
 use Rattle.bitpack_slices.proofs.ForCallers.{AreParts, flat_len, rising_room}
 use Rattle.bitpack_slices.specs.Bodies.{IsRising, le_bytes}
 use Rattle.bitpack_slices.specs.Reads.{has}
 use Rattle.bitpack_roaring.proofs.FlagLaws.{flag_later, flag_own}
-use Rattle.bitpack_roaring.proofs.MeasureSteps.{entries_len, starts_len}
+use Rattle.bitpack_roaring.proofs.MeasureSteps.{starts_len}
 use Rattle.bitpack_roaring.specs.Written.{are_runs, container, flagged, starts}
 use Rattle.bitpack_roaring.specs.inner.Sizes.{bodies, entries, lists, starts_of}
 

@@ -1,5 +1,5 @@
 -- Integers, bits and parts are read where they were written.
-use Rattle.std.proofs.Common.{◌≡◌, ℕ, zero, suc, ◌+◌, ◌*◌, ◌/◌, ◌%◌, ◌^◌, ◌<◌, ◌≤◌, List, ◌++◌, length, take, drop, get_or, sym, ap, ◌∙◌, arith, subst, pow-add, pow-suc}
+use Rattle.std.proofs.Common.{◌≡◌, ℕ, zero, suc, ◌+◌, ◌*◌, ◌/◌, ◌%◌, ◌^◌, ◌<◌, List, ◌++◌, length, take, drop, get_or, sym, ap, ◌∙◌, arith, pow-add, pow-suc}
 use Rattle.std.specs.Int.{bit_at}
 use Rattle.std.proofs.lemmas.List.{drop_at, get_or-append-add, get_or-drop, get_or_append_left, take_at}
 use Rattle.bitpack_groups.proofs.ForCallers.{front_is, joined_same, little_bytes, little_len}

@@ -9,7 +9,7 @@ ghost use Rattle.bitpack_roaring.specs.Roaring.{ids_of};
 ghost use Rattle.bitpack_roaring.specs.Written.{roaring};
 
 /// The bitmap that is written of increasing ids has no fault, and these ids are read from it.
-// claim: roaring/5 a bitmap that is written has no fault, and is read as the ids that it was written of
+// claim: roaring/5 a written bitmap has no fault, and is read back
 pub fn read_back()
     ensures fault { (ids : List ℕ) → IsRising 0 (2 ^ 32) ids → fault (roaring ids) ≡ None }
     ensures ids { (ids : List ℕ) → IsRising 0 (2 ^ 32) ids → ids_of (roaring ids) ≡ ids }

@@ -1,4 +1,4 @@
-//! Bitmaps in Roaring's portable format, as sets; and how long the bitmap of a set is.
+//! Bitmaps in Roaring's portable format, as sets; and the bitmap of a set.
 
 use alloc::vec::Vec;
 
@@ -57,5 +57,27 @@ impl IdSet {
     /// ```
     pub fn roaring_len(&self) -> usize {
         roaring::roaring_len(&self.code())
+    }
+
+    /// Returns the ids as a bitmap in Roaring's portable format: the bytes that `roaring_bitmap_portable_serialize` of CRoaring writes after
+    /// `roaring_bitmap_run_optimize`. `deserialize_from` of the crate `roaring` reads them. Allocates [`roaring_len`](IdSet::roaring_len) bytes.
+    ///
+    /// # Errors
+    ///
+    /// `Memory`.
+    ///
+    /// ```
+    /// use bitpacking::set::{Error, IdSetBuf};
+    ///
+    /// // 0 to 9 as a run.
+    /// let bytes = IdSetBuf::from_iter(0..10).to_roaring()?;
+    /// assert_eq!(bytes, [0x3B, 0x30, 0, 0, 1, 0, 0, 9, 0, 1, 0, 0, 0, 9, 0]);
+    /// # Ok::<(), Error>(())
+    /// ```
+    pub fn to_roaring(&self) -> Result<Vec<u8>, Error> {
+        let mut bytes = Vec::new();
+        bytes.try_resize(self.roaring_len(), 0).map_err(|_| Error::Memory)?;
+        roaring::set_to_roaring(&self.code(), &mut bytes);
+        Ok(bytes)
     }
 }

@@ -14,6 +14,7 @@ fn bitmaps() {
         let (ids, bytes) = (ids_of(&row[0]), bytes_of(&row[1]));
         let set = IdSetBuf::from_roaring(&bytes).unwrap();
         assert_eq!(set.as_bytes(), IdSetBuf::pack(&ids).unwrap().as_bytes(), "{}", row[1]);
+        assert_eq!(IdSetBuf::from_roaring(&set.to_roaring().unwrap()).unwrap(), set);
         let longer: Vec<u8> = bytes.iter().copied().chain([0]).collect();
         assert!(IdSetBuf::from_roaring(&longer).is_err() && IdSetBuf::from_roaring(&bytes[..bytes.len() - 1]).is_err());
     }
@@ -46,7 +47,26 @@ fn lengths() {
         ((0..1 << 20).collect(), 4 + 2 + 16 * 14),
         ((0..65536).map(|key| key << 16).collect(), 8 + 65536 * 10),
     ] {
-        assert_eq!(IdSetBuf::pack(&ids).unwrap().roaring_len(), len, "{} ids", ids.len());
+        let set = IdSetBuf::pack(&ids).unwrap();
+        assert_eq!((set.roaring_len(), set.to_roaring().unwrap().len()), (len, len), "{} ids", ids.len());
+    }
+}
+
+/// Bytes of docs/ROARING.md.
+#[test]
+fn written() {
+    let hex = |text: &str| bytes_of(&text.replace(' ', ""));
+    let fours = (0..4).flat_map(|key| [4, 5, 6, 7].map(|low| key << 16 | low)).collect::<Vec<u32>>();
+    for (ids, bytes) in [
+        (vec![], hex("3A300000 00000000")),
+        (vec![5], hex("3A300000 01000000 0000 0000 10000000 0500")),
+        (vec![3, 7, 65536], hex("3A300000 02000000 0000 0100 0100 0000 18000000 1C000000 0300 0700 0000")),
+        ((0..10).chain([131_077]).collect(), hex("3B30 0100 01 0000 0900 0200 0000 0100 0000 0900 0500")),
+        (vec![1, 2, 5, 6, 7], hex("3B30 0000 01 0000 0400 0200 0100 0100 0500 0200")),
+        (fours, hex("3B30 0300 0F 0000 0300 0100 0300 0200 0300 0300 0300 25000000 2B000000 31000000 37000000 {010004000300*4}")),
+        ((0..32768).map(|k| 2 * k).collect(), hex("3A300000 01000000 0000 FF7F 10000000 {55*8192}")),
+    ] {
+        assert_eq!(IdSetBuf::pack(&ids).unwrap().to_roaring().unwrap(), bytes, "{} ids", ids.len());
     }
 }
 

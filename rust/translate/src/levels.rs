@@ -68,7 +68,7 @@ pub const ENTRIES: [Entries; 29] = [
     entries(("queries", "query.rt"), "query", &["query_to"]),
     entries(("queries", "query/packing.rt"), "query::packing", &["query_set_to"]),
     entries(("roaring", "reading.rt"), "reading", &["fill_from_roaring"]),
-    entries(("roaring", "writing.rt"), "writing", &["roaring_len"]),
+    entries(("roaring", "writing.rt"), "writing", &["roaring_len", "set_to_roaring"]),
     entries(("sets", "encoding/order.rt"), "encoding::order", &["first_unsorted"]),
     entries(("columns", "opening.rt"), "opening", &["test_column"]),
     entries(("columns", "encoding.rt"), "encoding", &["encode", "encode_to", "encoded_len"]),

@@ -3,7 +3,6 @@ use Rattle.std.proofs.Common.{◌≡◌, ◌+◌, ◌*◌, ◌∙◌, ◌++◌, 
 use Rattle.bitpack_sets.specs.Opened.{ids}
 use Rattle.bitpack_roaring.proofs.BodyLaws.{no_bits}
 use Rattle.bitpack_roaring.proofs.MeasureSteps.{roaring_length}
-use Rattle.bitpack_roaring.specs.Written.{roaring}
 use Rattle.bitpack_roaring.proofs.writing.set_to_roaring.Goals as goal
 
 pub measure-measured-requires : goal.measure-measured-requires

@@ -1,5 +1,4 @@
 -- The parts have their lengths, and are the bitmap.
-use Rattle.std.proofs.Common.{◌≡◌, ◌*◌, ◌∙◌, arith, length}
 use Rattle.bitpack_sets.specs.Opened.{ids}
 use Rattle.bitpack_roaring.proofs.WriteSteps.{bitmap_is}
 use Rattle.bitpack_roaring.proofs.writing.write_bitmap.Goals as goal

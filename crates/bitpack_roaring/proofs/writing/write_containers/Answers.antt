@@ -1,13 +1,11 @@
 -- One container more is written.
-use Rattle.std.proofs.Common.{◌≡◌, ◌+◌, ◌-◌, ◌*◌, ◌<◌, ◌≤◌, ◌∙◌, ◌∷◌, ◌++◌, List, ap, arith, cond, drop, length, refl, subst, sym, take, ℕ}
-use Rattle.std.specs.List.{concat}
+use Rattle.std.proofs.Common.{◌≡◌, ◌+◌, ◌-◌, ◌∙◌, ◌++◌, List, ap, arith, length, refl, subst, sym, take, ℕ}
 use Rattle.bitpack_groups.proofs.ForCallers.{lent_after, take-put_end}
 use Rattle.bitpack_sets.specs.Chunks.{ids_from}
 use Rattle.bitpack_sets.specs.Opened.{ids}
 use Rattle.bitpack_slices.specs.Bodies.{parts}
 use Rattle.bitpack_roaring.proofs.PartLaws.{first_at, ids_few, ids_rise, most_parts, no_parts}
-use Rattle.bitpack_roaring.proofs.WriteSteps.{Writes, all_starts, bodies_done, body_room, entries_done, flag_is, more_room, starts_room, writes_more, writes_start}
-use Rattle.bitpack_roaring.specs.Written.{container}
+use Rattle.bitpack_roaring.proofs.WriteSteps.{Writes, all_starts, bodies_done, body_room, entries_done, flag_is, writes_more, writes_start}
 use Rattle.bitpack_roaring.specs.inner.Walks.{IsAt, numbers_of_part}
 use Rattle.bitpack_roaring.proofs.writing.write_containers.Goals as goal
 
