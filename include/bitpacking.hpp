@@ -3,7 +3,7 @@
  *     id_set, column              own the bytes of a set or a column
  *     id_set_view, column_view    borrow them, from these or from a mapped file
  *
- * A function that reads one of either takes a const bitpacking::readable_set & or readable_column &.
+ * A function that reads one or the other takes a const bitpacking::readable_set & or readable_column &.
  *
  *     const bitpacking::id_set cats{7, 9, 10, 300}, dogs{9, 11, 300};
  *     for (std::uint32_t id : cats & dogs) ...
@@ -339,6 +339,15 @@ public:
     {
         borrowed it;
         checked(Readable::of::open(bytes, bytes_len, &it.view_), number);
+        return it;
+    }
+
+    /* Opens bytes that open accepted before, and that did not change since. It does not test them again. With other bytes this call or a later one
+     * may read or write outside its buffers. */
+    static borrowed open_tested(const std::uint8_t *bytes, std::size_t bytes_len) noexcept
+    {
+        borrowed it;
+        Readable::of::open_tested(bytes, bytes_len, &it.view_);
         return it;
     }
 };

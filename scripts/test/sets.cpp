@@ -156,6 +156,7 @@ static void fails(const ids &right)
 
     is(id_set::open(bytes), right);
     is(opened(bytes), right);
+    is(id_set_view::open_tested(bytes.data(), bytes.size()), right);
     EXPECT(number == 0);
     is(opened(cut), {});
     EXPECT(number == BITPACKING_TRUNCATED && thrown([&] { id_set::open(cut); }) == number);
@@ -228,6 +229,7 @@ static void by_hand()
     EXPECT(column() == column::pack(BITPACKING_PLAIN, std::vector<std::uint32_t>{}) && column().begin() == column_view().end());
     EXPECT(thrown([] { id_set::from_range(0, 268435457); }) == BITPACKING_TOO_LONG && id_set::from_range(5, 3).empty());
     EXPECT(thrown([] { id_set::combine(7, std::vector<id_set>(2)); }) == BITPACKING_BAD_KIND);
+    EXPECT(id_set::combine(BITPACKING_OR, std::vector<id_set>()).empty());
     // More ids than the room of two sets whose bytes are few.
     EXPECT((id_set::from_range(0, 268435456) ^ id_set{5}).size() == 268435455);
 }
