@@ -55,8 +55,7 @@ pub extern "C" fn bitpacking_set_cursor_seek(
     target: u32,
     id: &mut u32,
 ) -> i32
-    // claim: c/46 `set_cursor_start`, `set_cursor_value`, `set_cursor_position`, `set_cursor_advance`, `set_cursor_seek`, `set_cursor_fill`: as `sets/3-4`,
-    //   `sets/12`; zeros are the empty set
+    // claim: c/46 cursors of a set: as `sets/3-4`, `sets/12`; zeros are one of the empty set
     ensures { MovesTo (max (position_of cursor.old) (rank target (ids_of cursor.old))) cursor.old cursor.new (id.old, id.new) result }
 {
     let set = cursor.set.read();
