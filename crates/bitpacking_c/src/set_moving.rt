@@ -13,7 +13,6 @@ use bitpack_sets::window::Window;
 /// Starts a cursor at the first id of a set.
 #[unsafe(no_mangle)]
 pub extern "C" fn bitpacking_set_cursor_start<'a>(cursor: &mut SetCursor<'a>, set: &SetView<'a>)
-    // claim: c/46
     ensures set { ids_of cursor.new ≡ ids_in set.now.bytes.now }
     ensures position { position_of cursor.new ≡ 0 }
 {
@@ -26,7 +25,6 @@ pub extern "C" fn bitpacking_set_cursor_start<'a>(cursor: &mut SetCursor<'a>, se
 /// Writes the id at the cursor and returns 1. After the last id it returns 0 and writes nothing.
 #[unsafe(no_mangle)]
 pub extern "C" fn bitpacking_set_cursor_value(cursor: &SetCursor<'_>, id: &mut u32) -> i32
-    // claim: c/46
     ensures { Gets (ids_of cursor.now) (position_of cursor.now) id.old id.new result }
 {
     written(cursor.window.value(), id)
@@ -35,7 +33,6 @@ pub extern "C" fn bitpacking_set_cursor_value(cursor: &SetCursor<'_>, id: &mut u
 /// How many ids are before the cursor.
 #[unsafe(no_mangle)]
 pub extern "C" fn bitpacking_set_cursor_position(cursor: &SetCursor<'_>) -> usize
-    // claim: c/46
     ensures { result ≡ position_of cursor.now }
 {
     cursor.window.position()
@@ -44,7 +41,6 @@ pub extern "C" fn bitpacking_set_cursor_position(cursor: &SetCursor<'_>) -> usiz
 /// Moves to the next id, writes it and returns 1. After the last id it returns 0 and writes nothing.
 #[unsafe(no_mangle)]
 pub extern "C" fn bitpacking_set_cursor_advance(cursor: &mut SetCursor<'_>, id: &mut u32) -> i32
-    // claim: c/46
     ensures { MovesTo (min (length (ids_of cursor.old)) (position_of cursor.old + 1)) cursor.old cursor.new (id.old, id.new) result }
 {
     let set = cursor.set.read();
@@ -59,8 +55,7 @@ pub extern "C" fn bitpacking_set_cursor_seek(
     target: u32,
     id: &mut u32,
 ) -> i32
-    // claim: c/46 `set_cursor_start`, `set_cursor_value`, `set_cursor_position`, `set_cursor_advance`, `set_cursor_seek`, `set_cursor_fill`: as `sets/3-4`,
-    //   `sets/12`; zeros are a cursor of the empty set
+    // claim: c/46 cursors of a set: as `sets/3-4`, `sets/12`; zeros are one of the empty set
     ensures { MovesTo (max (position_of cursor.old) (rank target (ids_of cursor.old))) cursor.old cursor.new (id.old, id.new) result }
 {
     let set = cursor.set.read();
@@ -71,7 +66,6 @@ pub extern "C" fn bitpacking_set_cursor_seek(
 /// of `ids` is unchanged.
 #[unsafe(no_mangle)]
 pub extern "C" fn bitpacking_set_cursor_fill(cursor: &mut SetCursor<'_>, ids: &mut [u32]) -> isize
-    // claim: c/46
     ensures set { ids_of cursor.new ≡ ids_of cursor.old }
     ensures position { position_of cursor.new ≡ position_of cursor.old + min (length ids.old) (length (ids_of cursor.old) - position_of cursor.old) }
     ensures ids { UnpacksFrom (position_of cursor.old) (ids_of cursor.old) ids.old ids.new result }
