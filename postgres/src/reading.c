@@ -141,8 +141,8 @@ Datum idset_slice(PG_FUNCTION_ARGS)
 
 /* How far unnest has read, and the ids at hand. */
 typedef struct {
-    bitpacking_set set;
-    size_t from, index, count;
+    bitpacking_set_cursor cursor;
+    size_t index, count;
     uint32 ids[PIECE];
 } reading;
 
@@ -152,8 +152,9 @@ static void start_reading(FunctionCallInfo fcinfo)
     FuncCallContext *calls = SRF_FIRSTCALL_INIT();
     MemoryContext before = MemoryContextSwitchTo(calls->multi_call_memory_ctx);
     reading *it = palloc0(sizeof *it);
+    bitpacking_set set = opened((struct varlena *)PG_DETOAST_DATUM_COPY(PG_GETARG_DATUM(0)));
 
-    it->set = opened((struct varlena *)PG_DETOAST_DATUM_COPY(PG_GETARG_DATUM(0)));
+    bitpacking_set_cursor_start(&it->cursor, &set);
     calls->user_fctx = it;
     MemoryContextSwitchTo(before);
 }
@@ -171,8 +172,7 @@ Datum idset_unnest(PG_FUNCTION_ARGS)
     it = calls->user_fctx;
     if (it->index == it->count) {
         CHECK_FOR_INTERRUPTS();
-        it->from += it->count;
-        it->count = (size_t)bitpacking_set_slice(&it->set, it->from, it->ids, PIECE);
+        it->count = (size_t)bitpacking_set_cursor_fill(&it->cursor, it->ids, PIECE);
         it->index = 0;
     }
     if (it->count == 0)
