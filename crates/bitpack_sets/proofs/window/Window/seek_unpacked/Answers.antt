@@ -1,5 +1,5 @@
 -- The ids from the next one on are searched, which the set has from its position on.
-use Rattle.std.proofs.Common.{List, subst, sym, ap, ◌∙◌, ◌-◌, ◌^◌, ◌<◌, ◌≡◌, ◌≤◌, ◌+◌, ℕ, Some, arith, drop, get_or, take}
+use Rattle.std.proofs.Common.{subst, sym, ap, ◌∙◌, ◌-◌, ◌^◌, ◌<◌, ◌≡◌, ◌≤◌, ◌+◌, ℕ, Some, arith, drop, get_or, take}
 use Rattle.bitpack_sets.specs.Opened.{ids}
 use Rattle.bitpack_sets.specs.declared.id_set.IdSet.{IdSet}
 use Rattle.bitpack_sets.specs.declared.window.Window.{Window}
