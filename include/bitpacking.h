@@ -408,6 +408,16 @@ ptrdiff_t bitpacking_set_open(const uint8_t *bytes, size_t bytes_len, bitpacking
  * call or a later one may read or write outside its buffers. */
 void bitpacking_set_open_tested(const uint8_t *bytes, size_t bytes_len, bitpacking_set *view);
 
+/* Returns the length of the set at the front of bytes, whatever is after it, and tests it only as far as that needs: open these bytes then. Returns 0
+ * if what it reads has a fault, or if the set goes on after the bytes. So a stream of sets is read, one after the other:
+ *
+ *     while ((size = bitpacking_set_front_len(bytes, bytes_len)) > 0 && bitpacking_set_open(bytes, size, &set) == 0) {
+ *         ...
+ *         bytes += size, bytes_len -= size;
+ *     }
+ */
+size_t bitpacking_set_front_len(const uint8_t *bytes, size_t bytes_len);
+
 /* Returns how many ids an opened set has. */
 size_t bitpacking_set_len(const bitpacking_set *view);
 

@@ -41,6 +41,28 @@ static void open_set(size_t set)
     expect(memcmp(found, ids[set], lens[set] * sizeof *found) == 0, "other ids");
 }
 
+/* The sets stand one after the other, before any bytes. */
+static void streams(void)
+{
+    enum { TAIL = 9 };
+    static uint8_t stream[sizeof set_bytes + TAIL];
+    const uint8_t *at = stream;
+    size_t set, len = 0;
+
+    for (set = 0; set < SETS; len += sets[set++].bytes_len)
+        memcpy(stream + len, set_bytes[set], sets[set].bytes_len);
+    for (set = 0; set < TAIL; set++)
+        stream[len++] = (uint8_t)drawn(256);
+    for (set = 0; set < SETS; set++) {
+        const size_t size = bitpacking_set_front_len(at, len);
+
+        expect(size == sets[set].bytes_len, "another length of a set in a stream");
+        expect(bitpacking_set_front_len(at, drawn((uint32_t)size)) == 0, "the length of a set that is cut");
+        at += size, len -= size;
+    }
+    expect(len == TAIL && bitpacking_set_front_len(at, len) <= len, "the length of what is no set");
+}
+
 /* The ids that a combination of all sets has, by the bits of the sets that have an id. */
 enum { IN_ALL, IN_ANY, IN_FIRST_ALONE, IN_AN_ODD_NUMBER };
 
@@ -345,6 +367,7 @@ int main(void)
             open_set(set);
             open_column(set, COUNTS);
         }
+        streams();
         combines();
         searches();
         draw_parts();

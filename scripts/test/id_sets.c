@@ -169,6 +169,8 @@ static void accepts(void)
     unpacks(&tested);
     ranges(&set);
     expect(bitpacking_set_open(bytes, size + 1, &set) == BITPACKING_TRAILING && set.bytes_len == size, "a byte is left over");
+    expect(bitpacking_set_front_len(bytes, size) == size && bitpacking_set_front_len(bytes, size + 1) == size, "another length");
+    expect(bitpacking_set_front_len(bytes, size - 1) == 0, "the length of a set that is cut");
     expect(bitpacking_set_open(bytes, size - 1, &set) < 0 && set.bytes_len == size, "its last byte is not needed");
 }
 

@@ -207,7 +207,7 @@ fn test_end(rest: &[u8]) -> Result<(), SetError>
 }
 
 /// Tests the groups of as many codes as the slice has, which are unpacked to it. Returns the bytes after them.
-fn test_groups<'a>(bytes: &'a [u8], codes: &mut [u32]) -> Result<&'a [u8], SetError>
+pub(crate) fn test_groups<'a>(bytes: &'a [u8], codes: &mut [u32]) -> Result<&'a [u8], SetError>
     requires few { length codes.old ≤ MOST_FEW }
     ensures fault { Finds result (of (groups_fault (groups_of (length codes.old)) 0 (length codes.old) bytes.now)) }
     ensures codes { OnOk result (codes.new ≡ groups_codes (groups_of (length codes.old)) (length codes.old) bytes.now) }

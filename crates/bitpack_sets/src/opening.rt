@@ -104,7 +104,7 @@ pub(crate) fn read_parts<'a>(bytes: &'a [u8]) -> Parts<'a>
 
 /// Tests the number at the front of the bytes as the count of ids of a set of 128 or more. Returns it, and how many bytes it has.
 #[tactic(auto, unfolding(crate::specs::Faults::count_fault))]
-fn open_count(bytes: &[u8]) -> Result<(usize, usize), SetError>
+pub(crate) fn open_count(bytes: &[u8]) -> Result<(usize, usize), SetError>
     ensures fault { Finds result (count_fault bytes.now) }
     ensures value { IfOk result (λ found. (found.0 ≡ number_value bytes.now) × (128 ≤ found.0) × (found.0 ≤ 2 ^ 28)) }
     ensures end { IfOk result (λ found. (found.1 ≡ number_end bytes.now) × (found.1 ≤ length bytes.now)) }
@@ -122,7 +122,7 @@ fn open_count(bytes: &[u8]) -> Result<(usize, usize), SetError>
 
 /// Tests the number at the front of the bytes as the count of chunks of `count` ids. Returns it, and how many bytes it has.
 #[tactic(auto, unfolding(crate::specs::Faults::chunk_count_fault))]
-fn open_chunk_count(count: usize, bytes: &[u8]) -> Result<(usize, usize), SetError>
+pub(crate) fn open_chunk_count(count: usize, bytes: &[u8]) -> Result<(usize, usize), SetError>
     requires { count ≤ 2 ^ 28 }
     ensures fault { Finds result (chunk_count_fault count bytes.now) }
     ensures value { IfOk result (λ found. (found.0 ≡ number_value bytes.now) × (0 < found.0) × (4 * found.0 ≤ count) × (found.0 ≤ 65536)) }

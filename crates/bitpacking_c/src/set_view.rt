@@ -1,6 +1,6 @@
 //! Id sets, opened without a copy: a view in the caller's memory holds the bytes, and that they are a set.
 
-ghost use Rattle.std.specs.Prelude.{◌≡◌, ◌≢◌, ◌&&◌, [], length, nat_le, slice_index, None};
+ghost use Rattle.std.specs.Prelude.{◌≡◌, ◌≢◌, ◌≤◌, ◌&&◌, ℕ, [], length, nat_le, slice_index, take, None};
 ghost use Rattle.std.specs.List.{filter};
 ghost use Rattle.bitpack_sets.specs.Faults.{fault};
 ghost use Rattle.bitpack_sets.specs.Opened.{encoding_of, ids};
@@ -10,7 +10,7 @@ ghost use Rattle.bitpack_sets.specs.Stated.{States};
 ghost use Rattle.bitpacking_c.specs.IdSets.{Encodes, SeeksId, number_of_answer, set_fault_number};
 ghost use Rattle.bitpacking_c.specs.Views.{Gets, UnpacksValues, WritesFound};
 
-use bitpack_sets::{AsSet, IdSet, Parts};
+use bitpack_sets::{AsSet, IdSet, Parts, front_len};
 
 /// An id set that was opened. It borrows its bytes, which do not change while the view is used.
 ///
@@ -139,6 +139,17 @@ pub extern "C" fn bitpacking_set_open_tested<'a>(bytes: &'a [u8], view: &mut Set
     ensures set { Encodes bytes.now (ids_in view.new.bytes.now) }
 {
     *view = SetView::of_set(bytes, &IdSet::of_tested(bytes));
+}
+
+/// The length of the set at the front of the bytes, with any bytes after it. Returns 0 if its head has a fault, or if the bytes end before
+/// the set does. Tests no more of it: it is opened afterwards.
+#[unsafe(no_mangle)]
+// claim: c/50 `set_front_len`: as `sets/31`
+pub extern "C" fn bitpacking_set_front_len(bytes: &[u8]) -> usize
+    ensures front { (n : ℕ) → n ≤ length bytes.now → fault (take n bytes.now) ≡ None → result ≡ n }
+    ensures within { result ≤ length bytes.now }
+{
+    front_len(bytes).unwrap_or(0)
 }
 
 /// How many ids the set has.

@@ -1,9 +1,10 @@
-//! Many sets, opened by one call.
+//! Many sets, opened by one call; and the length of the set at the front of bytes.
 
 use alloc::vec::Vec;
 use core::fmt;
 
 use super::{Error, IdSetBuf};
+use crate::sets;
 use crate::stable_bytes::StableBytes;
 
 /// Which of the encodings of [`open_many`] was refused, and why.
@@ -50,4 +51,27 @@ impl core::error::Error for OpenError {}
 pub fn open_many<B: StableBytes>(encodings: impl IntoIterator<Item = B>) -> Result<Vec<IdSetBuf<B>>, OpenError> {
     let encodings = encodings.into_iter().enumerate();
     encodings.map(|(index, bytes)| IdSetBuf::open(bytes).map_err(|error| OpenError { index, error })).collect()
+}
+
+impl IdSetBuf {
+    /// Returns the length in bytes of the set at the front of some bytes, whatever is after it. Tests the set only as far as that needs: open
+    /// these bytes then. Returns `None` if what it reads has a fault, or if the set goes on after the bytes.
+    ///
+    /// ```
+    /// use bitpacking::set::{Error, IdSet, IdSetBuf};
+    ///
+    /// // Two sets in one buffer, one after the other.
+    /// let mut stream = &[0x81, 5, 0x84, 7, 9, 1, 0, 0x84, 4][..];
+    /// let mut ids = Vec::new();
+    /// while let Some(len) = IdSetBuf::front_len(stream) {
+    ///     let (bytes, later) = stream.split_at(len);
+    ///     ids.extend(IdSet::open(bytes)?.iter());
+    ///     stream = later;
+    /// }
+    /// assert_eq!((ids, stream), (vec![5, 7, 9, 10, 300], &[][..]));
+    /// # Ok::<(), Error>(())
+    /// ```
+    pub fn front_len(bytes: &[u8]) -> Option<usize> {
+        sets::front_len(bytes)
+    }
 }

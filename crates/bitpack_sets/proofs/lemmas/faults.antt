@@ -6,6 +6,7 @@ pub mod EntryLaws
 pub mod FaultLaws
 pub mod FormLaws
 pub mod GapLaws
+pub mod HeadLaws
 pub mod KnownLaws
 pub mod MoreLaws
 pub mod RefusalLaws

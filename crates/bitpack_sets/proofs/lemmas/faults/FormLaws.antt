@@ -167,7 +167,7 @@ low_form bytes none low not6 = elim (eqb_tells (get_or bytes 0 0) 5) [
   | inr (other, isnt) ↦ absurd (some_not_none _ (sym (at_low bytes (some_bytes bytes none) isnt not6 low) ∙ none))
 ]
 
-count_sound : (bytes : List ℕ) → count_fault bytes ≡ None → number_fault bytes ≡ None
+pub count_sound : (bytes : List ℕ) → count_fault bytes ≡ None → number_fault bytes ≡ None
 unfolding count_fault
 count_sound bytes e = let (a, b) = or_none _ _ e in map_none set_error _ a
 
