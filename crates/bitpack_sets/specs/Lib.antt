@@ -1,6 +1,7 @@
 -- The definitions of this crate.
 pub mod Builders
 pub mod Chunks
+pub mod Described
 pub mod Directory
 pub mod Faults
 pub mod Forms

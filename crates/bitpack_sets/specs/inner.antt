@@ -1,2 +1,3 @@
 -- What inner contracts say.
+pub mod BodyForms
 pub mod Windows

@@ -15,6 +15,7 @@ use bitpack_slices::chunk::runs::{Runs, begins_runs};
 use bitpack_slices::chunk::search::{number_at, rank_in_numbers};
 
 impl<'a> Directory<'a> {
+    ghost use Rattle.bitpack_sets.specs.inner.BodyForms.{IsReadBy};
     ghost use Rattle.bitpack_sets.specs.Places.{body_counts_of};
 
     /// How many chunks have a lower key, and whether a chunk has this key.
@@ -146,6 +147,7 @@ impl<'a> Directory<'a> {
         ensures count { length (lows result) ≡ count_at self.entry.chunks self.entry.rest.now chunk }
         ensures counts { counts_of result ≡ body_counts_of (count_at self.entry.chunks self.entry.rest.now chunk) (body_at self.entry.chunks self.entry.rest.now chunk) }
         ensures lows { lows result ≡ body_numbers_of (count_at self.entry.chunks self.entry.rest.now chunk) (body_at self.entry.chunks self.entry.rest.now chunk) }
+        ensures form { IsReadBy (body_numbers_of (count_at self.entry.chunks self.entry.rest.now chunk) (body_at self.entry.chunks self.entry.rest.now chunk)) result }
     {
         let body = self.body(chunk);
         if body.len() == 2 * self.count_of(chunk) {

@@ -1,6 +1,7 @@
 -- What is looked up in a set, and its ids from a position on.
 pub mod ChunkReads
 pub mod CountLaws
+pub mod DescribedLaws
 pub mod HalfLaws
 pub mod HeldLaws
 pub mod IdsLaws

@@ -2,6 +2,7 @@
 use Rattle.std.proofs.Common.{◌∙◌, ap, length, sym, subst, true, false, ℕ, List}
 use Rattle.bitpack_slices.specs.Bodies.{IsRising}
 use Rattle.bitpack_sets.proofs.lemmas.reads.ChunkReads.{blocks_known, numbers_known, runs_of}
+use Rattle.bitpack_sets.proofs.lemmas.reads.DescribedLaws.{blocks_at, numbers_at, runs_at}
 use Rattle.bitpack_sets.proofs.lemmas.reads.HeldLaws.{counts_of_numbers, counts_of_others}
 use Rattle.bitpack_sets.proofs.directory.Directory.lows.Goals as goal
 
@@ -46,3 +47,15 @@ returns-then-begins_runs-clause-counts c =
 pub returns-clause-counts : goal.returns-clause-counts
 returns-clause-counts c =
     counts_of_others c.args.self.chunks c.args.chunk _ c.args.self.rest.now _ false c.count_of.ensures c.body-body.ensures c.if-body-count_of.false (sym c.begins_runs.ensures ∙ c.if-begins_runs.false)
+
+pub returns-then-body-count_of-clause-form : goal.returns-then-body-count_of-clause-form
+returns-then-body-count_of-clause-form c =
+    numbers_at c.args.self.count c.args.self.chunks c.args.chunk c.count_of.result c.args.self.rest.now c.body-body.result.now (record { is = c.args.self.sound; within = c.requires.within; count_is = c.count_of.ensures; body_is = c.body-body.ensures }) c.if-body-count_of.true
+
+pub returns-then-begins_runs-clause-form : goal.returns-then-begins_runs-clause-form
+returns-then-begins_runs-clause-form c =
+    runs_at c.args.self.count c.args.self.chunks c.args.chunk c.count_of.result c.args.self.rest.now c.body-body.result.now (record { is = c.args.self.sound; within = c.requires.within; count_is = c.count_of.ensures; body_is = c.body-body.ensures }) c.if-body-count_of.false (sym c.begins_runs.ensures ∙ c.if-begins_runs.true)
+
+pub returns-clause-form : goal.returns-clause-form
+returns-clause-form c =
+    blocks_at c.args.self.count c.args.self.chunks c.args.chunk c.count_of.result c.args.self.rest.now c.body-body.result.now (record { is = c.args.self.sound; within = c.requires.within; count_is = c.count_of.ensures; body_is = c.body-body.ensures }) c.if-body-count_of.false (sym c.begins_runs.ensures ∙ c.if-begins_runs.false)
