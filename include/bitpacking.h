@@ -475,6 +475,20 @@ size_t bitpacking_set_rank(const bitpacking_set *view, uint32_t target);
 /* Returns how many ids are from low to high, both included. */
 size_t bitpacking_set_count_between(const bitpacking_set *view, uint32_t low, uint32_t high);
 
+/* What a set is like: how many ids, bytes and chunks it has, and how many chunks have a body of numbers, of blocks, and of runs. Only a set in
+ * chunks has chunks. */
+typedef struct bitpacking_set_description {
+    size_t ids;
+    size_t bytes;
+    size_t chunks;
+    size_t numbers;
+    size_t blocks;
+    size_t runs;
+} bitpacking_set_description;
+
+/* Writes what the set is like. */
+void bitpacking_set_describe(const bitpacking_set *view, bitpacking_set_description *to);
+
 /* Unpacks the ids from position `from` on, as many as there are and as fit, and returns how many these are: 0 from the number of ids on. Those in
  * the buffer after them are unchanged. */
 ptrdiff_t bitpacking_set_slice(const bitpacking_set *view, size_t from, uint32_t *ids, size_t ids_len);

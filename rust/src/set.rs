@@ -57,6 +57,7 @@ use core::fmt;
 use core::hash::{Hash, Hasher};
 use core::ops::Deref;
 
+pub use crate::sets::Description;
 pub use crate::slices::SetError as Error;
 pub use builder::SetBuilder;
 pub use cursor::{Cursor, SetCursor};

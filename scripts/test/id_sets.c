@@ -338,20 +338,22 @@ static void pairs(void)
     in_place(&views[0], values, count, others, others_len);
 }
 
-/* Sets of each form: how many ids they have, the first of them, how far each run of ids is from the next, and how many ids are in a run. */
+/* Sets of each form: how many ids they have, the first of them, how far each run of ids is from the next, and how many ids are in a run; how many
+   chunks they have, with bodies of numbers, of blocks, and of runs. */
 static const struct {
     size_t len;
     uint32_t first, step, run;
+    size_t chunks, numbers, blocks, runs;
 } forms[] = {
-    {0, 0, 1, 1},          /* no ids */
-    {1, 70000, 1, 1},      /* one */
-    {127, 5, 1000, 1},     /* few */
-    {1000, 7, 65537, 1},   /* an array: one id in each chunk */
-    {9000, 3, 300, 1},     /* chunks of numbers */
-    {40000, 0, 5, 1},      /* chunks of bitmaps */
-    {100000, 9, 400, 100}, /* chunks of runs */
-    {140000, 60000, 1, 1}, /* no gap */
-    {65536, 65536, 1, 1},  /* one whole chunk */
+    {0, 0, 1, 1, 0, 0, 0, 0},          /* no ids */
+    {1, 70000, 1, 1, 0, 0, 0, 0},      /* one */
+    {127, 5, 1000, 1, 0, 0, 0, 0},     /* few */
+    {1000, 7, 65537, 1, 0, 0, 0, 0},   /* an array: one id in each chunk */
+    {9000, 3, 300, 1, 42, 42, 0, 0},   /* chunks of numbers */
+    {40000, 0, 5, 1, 4, 0, 4, 0},      /* chunks of bitmaps */
+    {100000, 9, 400, 100, 7, 0, 6, 1}, /* chunks of many runs, and one of few */
+    {140000, 60000, 1, 1, 4, 0, 0, 4}, /* no gap */
+    {65536, 65536, 1, 1, 1, 0, 0, 1},  /* one whole chunk */
 };
 
 /* Puts the ids of a form into an array. */
@@ -363,6 +365,17 @@ static size_t put_form(size_t form, uint32_t *to)
     for (i = 0; i < forms[form].len; i++)
         to[i] = forms[form].first + i / run * forms[form].step + i % run;
     return forms[form].len;
+}
+
+/* What a set of a form is like. */
+static void describes(size_t form, const bitpacking_set *set)
+{
+    bitpacking_set_description it;
+
+    bitpacking_set_describe(set, &it);
+    expect(it.ids == forms[form].len && it.bytes == set->bytes_len, "another size is described");
+    expect(it.chunks == forms[form].chunks && it.numbers == forms[form].numbers, "other chunks are described");
+    expect(it.blocks == forms[form].blocks && it.runs == forms[form].runs, "other bodies are described");
 }
 
 /* Each operation on each two forms. Another number is no operation, whatever room there is, and nothing is written. */
@@ -377,6 +390,7 @@ static void pairs_of_forms(void)
     for (i = 0; i < len; i++)
         for (j = 0; j < len; j++) {
             views[0] = opened(values, count = put_form(i, values), first_bytes);
+            describes(i, &views[0]);
             views[1] = opened(others, others_len = put_form(j, others), other_bytes);
             gives_each(&views[0], values, count, &views[1], others, others_len);
         }
@@ -391,10 +405,13 @@ static void empty(void)
 {
     bitpacking_set set = BITPACKING_SET_EMPTY;
     bitpacking_set_builder pushed = BITPACKING_SET_BUILDER_EMPTY;
+    bitpacking_set_description described;
     uint8_t byte = 0xA5;
     uint32_t id = 77;
 
     position = 77;
+    bitpacking_set_describe(&set, &described);
+    expect(described.ids == 0 && described.bytes == 1 && described.chunks == 0, "zeros are described as another set");
     expect(bitpacking_set_unpack(&set, NULL, 0) == 0 && bitpacking_set_slice(&set, 0, NULL, 0) == 0, "zeros have ids");
     expect(bitpacking_set_get(&set, 0, &id) == 0 && bitpacking_set_seek(&set, 0, &position, &id) == 0, "zeros have an id");
     expect(bitpacking_set_unpack_wide(&set, 0, NULL, 0) == 0 && bitpacking_set_add(&set, 0, NULL, 0) == 0, "zeros have wide ids");

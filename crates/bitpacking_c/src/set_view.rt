@@ -2,15 +2,17 @@
 
 ghost use Rattle.std.specs.Prelude.{◌≡◌, ◌≢◌, ◌≤◌, ◌&&◌, ℕ, [], length, nat_le, slice_index, take, None};
 ghost use Rattle.std.specs.List.{filter};
+ghost use Rattle.bitpack_sets.specs.Described.{Counts, chunks_of};
 ghost use Rattle.bitpack_sets.specs.Faults.{fault};
 ghost use Rattle.bitpack_sets.specs.Opened.{encoding_of, ids};
 ghost use Rattle.bitpack_slices.specs.Reads.{has};
 ghost use Rattle.bitpack_sets.specs.Reads.{ids_in};
+ghost use Rattle.bitpack_sets.specs.Sets.{encoding};
 ghost use Rattle.bitpack_sets.specs.Stated.{States};
 ghost use Rattle.bitpacking_c.specs.IdSets.{Encodes, SeeksId, number_of_answer, set_fault_number};
 ghost use Rattle.bitpacking_c.specs.Views.{Gets, UnpacksValues, WritesFound};
 
-use bitpack_sets::{AsSet, IdSet, Parts, front_len};
+use bitpack_sets::{AsSet, Description, IdSet, Parts, front_len};
 
 /// An id set that was opened. It borrows its bytes, which do not change while the view is used.
 ///
@@ -178,6 +180,17 @@ pub extern "C" fn bitpacking_set_count_between(view: &SetView<'_>, low: u32, hig
     ensures { result ≡ length (filter (λ x. nat_le low x && nat_le x high) (ids_in view.now.bytes.now)) }
 {
     view.as_set().count_between(low, high)
+}
+
+/// Writes what the set is like.
+#[unsafe(no_mangle)]
+// claim: c/51 `set_describe`: as `sets/32`
+pub extern "C" fn bitpacking_set_describe(view: &SetView<'_>, to: &mut Description)
+    ensures ids { to.new.ids ≡ length (ids_in view.now.bytes.now) }
+    ensures bytes { to.new.bytes ≡ length (encoding (ids_in view.now.bytes.now)) }
+    ensures bodies { Counts to.new (chunks_of (ids_in view.now.bytes.now)) }
+{
+    *to = view.as_set().describe();
 }
 
 /// Writes all ids to the front of `ids`, and returns their number. If there is no room for them it returns -3 and writes nothing. The

@@ -2,7 +2,7 @@
 
 use alloc::vec::Vec;
 
-use super::IdSet;
+use super::{Description, IdSet};
 use crate::growing::resize;
 
 impl IdSet {
@@ -17,6 +17,23 @@ impl IdSet {
     #[inline]
     pub fn len(&self) -> usize {
         self.code().len()
+    }
+
+    /// Returns what the set is like: how many ids and bytes it has, how many chunks, and how many of these have a body of each form. Looks at each
+    /// chunk, and allocates nothing.
+    ///
+    /// ```
+    /// use bitpacking::set::IdSetBuf;
+    ///
+    /// let mut ids: IdSetBuf = (0..65_536).step_by(3).collect();
+    /// ids.insert_range(65_536..200_000)?;
+    /// let it = ids.describe();
+    /// assert_eq!((it.ids, it.bytes == ids.as_bytes().len()), (156_310, true));
+    /// assert_eq!((it.chunks, it.numbers, it.blocks, it.runs), (4, 0, 1, 3));
+    /// # Ok::<(), bitpacking::set::Error>(())
+    /// ```
+    pub fn describe(&self) -> Description {
+        self.code().describe()
     }
 
     /// Returns whether there is no id.

@@ -154,7 +154,7 @@ fn combining_sets() {
             nothing! {
                 (one.intersect_len(other), one.unite_len(other), one.subtract_len(other), one.symmetric_difference_len(other));
                 (one.is_subset(other), one.is_disjoint(other), one.jaccard(other), one < other);
-                (one.count_between(7..), one.contains_range(..9), set::symmetric_difference_all_len(&[one, other, one]));
+                (one.describe(), one.count_between(7..), one.contains_range(..9), set::symmetric_difference_all_len(&[one, other, one]));
                 (one.intersect_into(other, &mut ids), one.symmetric_difference_into(other, &mut ids));
                 (one.subtract_into(other, &mut ids), one.unite_into(other, &mut ids));
                 other.retain_in(&mut ids);

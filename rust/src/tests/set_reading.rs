@@ -4,7 +4,7 @@ use alloc::vec;
 use alloc::vec::Vec;
 
 use super::set_models::{FORMS, Model, Numbers, bytes_of, ids_of, listed, packed, rows, some_ids, used};
-use crate::set::{Error, IdSet, IdSetBuf, OpenError, open_many, pack_into, pack_to, packed_len};
+use crate::set::{Description, Error, IdSet, IdSetBuf, OpenError, open_many, pack_into, pack_to, packed_len};
 
 const CANARY: u32 = 0xA5A5_A5A5;
 
@@ -126,6 +126,22 @@ fn worked_bytes() {
         let field = field.replace(' ', "");
         assert_eq!(set.as_bytes(), bytes_of(&field), "{field}");
         assert_eq!(IdSet::open(set.as_bytes()).unwrap().unpack(), ids);
+    }
+}
+
+/// Three chunks, with a body of each form. Two boundaries and the bytes before them take 6 bytes. Blocks have a byte, 8 high bytes, 8 counts and 8
+/// slices of 32 bytes, which are 273, and 20 numbers take 40. Before the bodies are byte 0, two bytes for 2020, one for 3 and one for the sizes,
+/// and of each chunk two bytes of its key, of its end and of its sum. Few ids without a gap have two bytes, and one for each 32 gaps.
+#[test]
+fn a_body_of_each_form() {
+    let ids = (0..1000).chain((65_536..67_536).step_by(2)).chain((131_072..136_212).step_by(257));
+    let it = ids.collect::<IdSetBuf>().describe();
+    assert_eq!(it, Description { ids: 2020, bytes: 5 + 18 + 319, chunks: 3, numbers: 1, blocks: 1, runs: 1 });
+    let few: Vec<u32> = (0..127).collect();
+    let far: Vec<u32> = (0..128).map(|k| k << 16).collect();
+    for (ids, bytes) in [(vec![], 1), (few, 2 + 4), (far, 3 + 4 * 128)] {
+        let it = IdSetBuf::pack(&ids).unwrap().describe();
+        assert_eq!(it, Description { ids: ids.len(), bytes, chunks: 0, numbers: 0, blocks: 0, runs: 0 });
     }
 }
 
