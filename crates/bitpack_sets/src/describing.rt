@@ -58,7 +58,7 @@ impl<'a> Directory<'a> {
     ghost use Rattle.bitpack_sets.specs.Described.{Counts};
     ghost use Rattle.bitpack_sets.specs.inner.BodyForms.{first_chunks};
 
-    /// The description with all chunks, of which it has none.
+    /// The description with all chunks. Before it has none.
     fn describe(self, none: Description) -> Description
         requires { Counts none [] }
         ensures ids { result.ids ≡ none.ids }
