@@ -194,6 +194,14 @@ public:
     /* Returns how many ids are below target. The rank of CRoaring also counts target itself, if the set has it. */
     std::size_t rank(std::uint32_t target) const noexcept { return bitpacking_set_rank(&view_, target); }
 
+    /* Returns what the set is like: its ids, bytes and chunks, and the bodies of each form. */
+    bitpacking_set_description describe() const noexcept
+    {
+        bitpacking_set_description it{};
+        bitpacking_set_describe(&view_, &it);
+        return it;
+    }
+
     /* Returns the first id that is at least target, with its position. Returns nothing if all ids are below target. */
     found seek(std::uint32_t target) const noexcept
     {

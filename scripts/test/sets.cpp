@@ -60,7 +60,7 @@ static ids any()
 
 static void is(const readable_set &set, const ids &right)
 {
-    EXPECT(set.size() == right.size() && set.empty() == right.empty());
+    EXPECT(set.size() == right.size() && set.empty() == right.empty() && set.describe().ids == right.size());
     EXPECT(std::equal(set.begin(), set.end(), right.begin(), right.end()));
     EXPECT(set.unpack() == std::vector<std::uint32_t>(right.begin(), right.end()));
     EXPECT(set == id_set(right.begin(), right.end()));

@@ -33,9 +33,9 @@ impl<'a> IdSet<'a> {
 
     /// What the set is like. Reads of each chunk its sizes and at most two bytes of its body.
     pub fn describe(&self) -> Description
-        // claim: sets/32 describes a set: its ids, its bytes, its chunks, and the bodies of each form
         ensures ids { result.ids ≡ length (ids self.now) }
         ensures bytes { result.bytes ≡ length (encoding (ids self.now)) }
+        // claim: sets/32 counts ids, bytes, chunks, bodies by form
         ensures bodies { Counts result (chunks_of (ids self.now)) }
     {
         let none = Description {
@@ -58,7 +58,7 @@ impl<'a> Directory<'a> {
     ghost use Rattle.bitpack_sets.specs.Described.{Counts};
     ghost use Rattle.bitpack_sets.specs.inner.BodyForms.{first_chunks};
 
-    /// The description with all chunks. Before it has none.
+    /// Adds all chunks to a description without any.
     fn describe(self, none: Description) -> Description
         requires { Counts none [] }
         ensures ids { result.ids ≡ none.ids }
@@ -72,7 +72,7 @@ impl<'a> Directory<'a> {
         so_far
     }
 
-    /// The description with one chunk more.
+    /// Adds a chunk to the description of those before it.
     fn describe_chunk(self, chunk: usize, so_far: Description) -> Description
         requires within { chunk < self.chunks }
         requires bodies { Counts so_far (first_chunks self.chunks self.rest.now chunk) }
