@@ -22,7 +22,7 @@ use crate::varints::open_number;
 /// Reads byte 0, the counts, the sizes and the last end, or the groups of fewer than 128 ids. Returns `None` if these have a fault, or
 /// if the bytes end before the set does. Tests no ids and no bodies: open the bytes of this length afterwards.
 pub fn front_len(bytes: &[u8]) -> Option<usize>
-    // claim: sets/31 the length of a set with any bytes after it
+    // claim: sets/31 measures the set at the front
     ensures front { (n : ℕ) → n ≤ length bytes.now → fault (take n bytes.now) ≡ None → result ≡ Some n }
     ensures within { IfSome result (λ n. n ≤ length bytes.now) }
 {

@@ -268,3 +268,20 @@ fn the_longest_set() {
     assert_eq!(set.append(&[1 << 29]).err(), Some(Error::TooLong((1 << 28) + 1)));
     assert_eq!(set.iter().nth_back(5), Some((1 << 29) - 6));
 }
+
+/// Sets that stand one after the other, before any bytes, have their lengths; one that is cut has none.
+#[test]
+fn lengths_at_the_front() {
+    let mut numbers = Numbers(11);
+    let encodings: Vec<_> = (0..FORMS).map(|form| packed(&some_ids(&mut numbers, form)).into_bytes()).collect();
+    let mut stream: Vec<u8> = encodings.concat();
+    stream.extend((0..9).map(|_| numbers.below(256) as u8));
+    let mut at = &stream[..];
+    for bytes in &encodings {
+        assert_eq!(IdSetBuf::front_len(at), Some(bytes.len()));
+        assert_eq!(IdSetBuf::front_len(&at[..numbers.below(bytes.len() as u32) as usize]), None);
+        at = &at[bytes.len()..];
+    }
+    assert_eq!(at.len(), 9);
+    assert!(IdSetBuf::front_len(at).is_none_or(|len| len <= 9));
+}
