@@ -86,7 +86,7 @@ for one, other, below in PAIRS:
     name = re.sub(r"000\b", "k", re.sub(r"000000\b", "M", f"{one}+{other} of {below}"))
     SHAPES[name] = [(uniform, one, below / one), (uniform, other, below / other)]
 # The columns of the table, each of one call or of several.
-COLUMNS = ["bytes", "pack/open/unpack/iterate", "contains/rank/select/seek"]
+COLUMNS = ["bytes", "pack/open/unpack/iterate", "contains/rank/select/seek/move"]
 COLUMNS += [*(f"AND/OR/NOT/XOR {it}" for it in ("to ids", "to a set", "to bytes", "counted")), "subset/disjoint"]
 
 

@@ -63,21 +63,23 @@ const Operation OPERATIONS[] = {
 template <typename Next> size_t iterate(Next next)
 {
     uint32_t part[PART];
-    size_t sum = 0, from = 0;
-    while (size_t count = next(from, part)) {
+    size_t sum = 0;
+    while (size_t count = next(part))
         sum = std::accumulate(part, part + count, sum);
-        from += count;
-    }
     return sum;
 }
 
 void whole(Bench &bench, const Set &set)
 {
-    auto slices = [&](Room &) { return iterate([&](size_t from, uint32_t *part) { return bitpacking_set_slice(&set.view, from, part, PART); }); };
+    auto fills = [&](Room &) {
+        bitpacking_set_cursor at = BITPACKING_SET_CURSOR_EMPTY;
+        bitpacking_set_cursor_start(&at, &set.view);
+        return iterate([&](uint32_t *part) { return bitpacking_set_cursor_fill(&at, part, PART); });
+    };
     auto parts = [&](Room &) {
         roaring_uint32_iterator_t at;
         roaring_init_iterator(set.bitmap.get(), &at);
-        return iterate([&](size_t, uint32_t *part) { return roaring_read_uint32_iterator(&at, part, PART); });
+        return iterate([&](uint32_t *part) { return roaring_read_uint32_iterator(&at, part, PART); });
     };
     auto packed = [&](Room &out) { return pack(set.ids.data(), set.ids.size(), out.bytes); };
     auto open = [&](Room &) { return opened(set.bytes.data(), set.bytes.size()).count > 0; };
@@ -85,7 +87,7 @@ void whole(Bench &bench, const Set &set)
     bench.call("pack", As::set, packed, [&](Room &out) { return save(set.made(), out.bytes); });
     bench.call("open", As::number, open, [&](Room &) { return read(set.portable, set.portable.size()) != nullptr; });
     bench.call("unpack", As::ids, [&](Room &out) { return unpack(set.view, out.ids); }, [&](Room &out) { return unpack(set.bitmap, out.ids); });
-    bench.call("iterate", As::number, slices, parts);
+    bench.call("iterate", As::number, fills, parts);
 }
 
 // The sum of what a call returns for each of the points.
@@ -97,6 +99,30 @@ template <typename Call> auto at_all(const Ids &points, Call call)
             sum += call(it);
         return sum;
     };
+}
+
+// Moves a cursor to increasing points.
+void moves(Bench &bench, const Set &set, Ids points)
+{
+    std::sort(points.begin(), points.end());
+    auto cursor = [&](Room &) {
+        bitpacking_set_cursor at = BITPACKING_SET_CURSOR_EMPTY;
+        bitpacking_set_cursor_start(&at, &set.view);
+        uint32_t id;
+        size_t sum = 0;
+        for (uint32_t it : points)
+            sum += bitpacking_set_cursor_seek(&at, it, &id) ? id : 0;
+        return sum;
+    };
+    auto iterator = [&](Room &) {
+        roaring_uint32_iterator_t at;
+        roaring_init_iterator(set.bitmap.get(), &at);
+        size_t sum = 0;
+        for (uint32_t it : points)
+            sum += roaring_move_uint32_iterator_equalorlarger(&at, it) ? at.current_value : 0;
+        return sum;
+    };
+    bench.call("move", As::number, cursor, iterator);
 }
 
 // Half of the points are ids of the set.
@@ -124,6 +150,7 @@ void searches(Bench &bench, const Set &set)
     search("select", positions, select, [&](uint32_t it) { return roaring_bitmap_select(bitmap, it, &id) ? id : 0; });
     auto seek = [&](uint32_t it) { return bitpacking_set_seek(view, it, &position, &id) ? id : 0; };
     search("seek", points, seek, [&](uint32_t it) { return roaring_move_uint32_iterator_equalorlarger(&at, it) ? at.current_value : 0; });
+    moves(bench, set, points);
 }
 
 // Each set of ours is bytes. CRoaring first leaves a bitmap, and then also saves it.
