@@ -10,9 +10,7 @@ ghost use Rattle.bitpacking_c.specs.SetRoaring.{NeedsRoom, ReadsBitmap};
 
 use crate::set_packing::answer;
 use crate::set_view::SetView;
-use bitpack_roaring::{
-    roaring_len, roaring_room, set_from_roaring, set_to_roaring, test_roaring,
-};
+use bitpack_roaring::{roaring_len, roaring_room, set_from_roaring, set_to_roaring, test_roaring};
 use bitpack_sets::AsSet;
 use bitpack_sets::laws::longest_encoding;
 use bitpack_slices::SetError;
