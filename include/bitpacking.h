@@ -408,8 +408,8 @@ ptrdiff_t bitpacking_set_open(const uint8_t *bytes, size_t bytes_len, bitpacking
  * call or a later one may read or write outside its buffers. */
 void bitpacking_set_open_tested(const uint8_t *bytes, size_t bytes_len, bitpacking_set *view);
 
-/* Returns the length of the set at the front of bytes, whatever is after it, and tests it only as far as that needs: open these bytes then. Returns 0
- * if what it reads has a fault, or if the set goes on after the bytes. So a stream of sets is read, one after the other:
+/* Returns the length of the set at the front of bytes. Any bytes may follow the set. The call reads only what says the length: open the set before you
+ * use it. Returns 0 if what it reads has a fault, or if the set is longer than the bytes. This reads a stream of sets:
  *
  *     while ((size = bitpacking_set_front_len(bytes, bytes_len)) > 0 && bitpacking_set_open(bytes, size, &set) == 0) {
  *         ...
@@ -497,8 +497,8 @@ ptrdiff_t bitpacking_set_slice(const bitpacking_set *view, size_t from, uint32_t
  * to 256 unpacked ids: so the next id, and a seek that passes few, take a few instructions.
  *
  * Set a cursor to BITPACKING_SET_CURSOR_EMPTY before anything else, or all of it to zero: each is a cursor of the empty set. Then start it, as often
- * as you like. Only the functions for cursors may write its fields, and the bytes of the set stay where they are, unchanged, for as long as it is
- * used. The view itself may change or go. A copy of a cursor moves on its own.
+ * as you like. Only the functions for cursors may write its fields. While you use a cursor, do not move or change the bytes of the set. The view need
+ * not stay. A copy of a cursor moves on its own.
  *
  *     bitpacking_set_cursor one = BITPACKING_SET_CURSOR_EMPTY, other = BITPACKING_SET_CURSOR_EMPTY;
  *     bitpacking_set_cursor_start(&one, &sets[0]);
@@ -651,10 +651,10 @@ ptrdiff_t bitpacking_set_from_roaring(const uint8_t *roaring, size_t roaring_len
 size_t bitpacking_set_from_roaring_room(const uint8_t *roaring, size_t roaring_len);
 
 /* Writes the ids of a set as a bitmap at the start of bytes, and returns its number of bytes: what roaring_bitmap_portable_serialize of CRoaring writes
- * after roaring_bitmap_run_optimize. If bytes_len is below that number it writes nothing. A call takes about 90 KB of stack. */
+ * after roaring_bitmap_run_optimize. If bytes_len is below that number it writes nothing. A call takes about 100 KB of stack. */
 size_t bitpacking_set_to_roaring(const bitpacking_set *view, uint8_t *bytes, size_t bytes_len);
 
-/* Returns how many bytes bitpacking_set_to_roaring writes. */
+/* Returns how many bytes bitpacking_set_to_roaring writes. A call takes about 50 KB of stack. */
 size_t bitpacking_set_roaring_size(const bitpacking_set *view);
 
 /* Writes the set of the ids that a query has at the start of bytes, and returns its number of bytes. It requires views, steps and space as
