@@ -1,5 +1,5 @@
-//! Reads bitmaps in Roaring's portable format, a line of hexadecimal digits for each. Writes the bytes of the set of each and those of its bitmap, or the
-//! number of its fault.
+//! Reads bitmaps in Roaring's portable format, each as a line of hexadecimal digits. For each it writes a line: the bytes of its set, and the bytes of the
+//! bitmap that the set is written as. If the bitmap has a fault, the line has the number of the fault.
 
 use std::io::{self, BufRead, BufWriter, Write};
 
