@@ -8,6 +8,7 @@ clang, from C99 to C23 and from C++11 to C++20, for 64 and 32 bits; bitpacking.h
 A part that lacks a tool is left out, and named.
 """
 import functools
+import os
 import re
 import resource
 import shutil
@@ -33,7 +34,7 @@ CURSORS = "scripts/test/cursors.c"
 RANKING = "scripts/test/ranking.c"
 RANDOM = "scripts/test/cases.c"
 PAGES = "scripts/test/pages.c"
-SETS = "scripts/test/sets.cpp"
+SETS, ROARING = "scripts/test/sets.cpp", "/usr/include/roaring/roaring.h"
 STACK = 256 << 10  # bytes; the sanitizer needs more
 SANITIZED = ["-fsanitize=address,undefined", "-fno-sanitize-recover=all"]
 # What each compiler is asked for the header, and by language.
@@ -211,6 +212,12 @@ def in_cpp():
     if shutil.which("c++"):
         program = "examples/id_set.cpp"
         yield f"{program} without exceptions", compiled_and_run(program, ["c++", "-std=c++17", "-fno-exceptions", *STRICT], library)
+    if shutil.which("c++") and os.path.exists(ROARING):
+        # The bench of docs/FROM-ROARING.md, which is not run here.
+        bench = "scripts/bench/access.cpp"
+        yield bench, failed(
+            run("c++", "-std=c++17", *"-Wall -Wextra -Werror -fsyntax-only".split(), f"-I{ROOT}/include", f"{ROOT}/{bench}")
+        )
 
 
 def checks():
