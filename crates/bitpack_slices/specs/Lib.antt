@@ -1,6 +1,7 @@
 -- The definitions of this crate.
 pub mod Bitmaps
 pub mod Errors
+pub mod Falls
 pub mod Faults
 pub mod Follows
 pub mod Lists

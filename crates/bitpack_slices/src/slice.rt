@@ -23,9 +23,9 @@ ghost use Rattle.bitpack_slices.specs.Props.{rising_prop};
 ghost use Rattle.bitpack_slices.specs.Slices.{HasSlice, slice_len};
 
 use crate::bitmap::single_bits::slice_bits;
-use crate::slice::matches::{bytes_from, matches_of_bytes};
+use crate::slice::matches::{bytes_from, matches_of_bytes, rank_of_bytes};
 use crate::slice::reading::unpack_from;
-use crate::slice::search::in_slice;
+use crate::slice::search::{in_slice, next_in_slice, rank_in_bits};
 
 /// How many bytes the slice of `count` numbers has.
 #[inline(always)]
@@ -60,9 +60,9 @@ pub struct Slice<'a> {
 }
 
 impl<'a> Slice<'a> {
-    ghost use Rattle.std.specs.Prelude.{◌≡◌, ℕ, ◌+◌, ◌^◌, ◌<◌, ◌≤◌, ◌++◌, length, map, take};
+    ghost use Rattle.std.specs.Prelude.{◌≡◌, ℕ, ◌+◌, ◌^◌, ◌<◌, ◌≤◌, ◌++◌, length, map, slice_index, take};
     ghost use Rattle.bitpack_slices.specs.Bitmaps.{has_bit};
-    ghost use Rattle.bitpack_slices.specs.Reads.{has};
+    ghost use Rattle.bitpack_slices.specs.Reads.{has, rank};
     ghost use Rattle.bitpack_slices.specs.Selections.{bytes_of, numbers_at};
 
     /// The bytes of the slice.
@@ -83,6 +83,30 @@ impl<'a> Slice<'a> {
             return matches_of_bytes(bytes, self.count, &[number]) != 0;
         }
         in_slice(self.count, self.bytes(), number)
+    }
+
+    /// How many numbers of the slice are below this one.
+    #[inline(always)]
+    pub(crate) fn rank(self, number: u8) -> usize
+        ensures { result ≡ rank number (numbers_at self.entry) }
+    {
+        if self.count < 32 {
+            return rank_of_bytes(bytes_from(self.slices, self.start), self.count, number);
+        }
+        if self.count < 256 {
+            return rank_in_bits(self.bytes(), number);
+        }
+        number as usize
+    }
+
+    /// The first number of the slice that is not below this one. Its position is given.
+    #[inline(always)]
+    pub(crate) fn next(self, position: usize, number: u8) -> u8
+        requires position { position ≡ rank number (numbers_at self) }
+        requires within { position < self.count }
+        ensures { result ≡ slice_index (numbers_at self.entry) position }
+    {
+        next_in_slice(self.count, self.bytes(), position, number as usize)
     }
 
     /// The numbers of the slice, as bits.

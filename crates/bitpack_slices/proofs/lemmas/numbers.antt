@@ -1,6 +1,7 @@
 -- Increasing numbers: what is looked up in them, their parts, and what is made of two lists.
 pub mod AnswerLaws
 pub mod FallLaws
+pub mod FewLaws
 pub mod HalfLaws
 pub mod JoinReads
 pub mod KeyLaws

@@ -5,10 +5,9 @@ ghost use Rattle.bitpack_slices.specs.Reads.{rank};
 ghost use Rattle.bitpack_slices.specs.Slices.{numbers_in, slices_len};
 
 use crate::chunk::parts::Parts;
-use crate::chunk::search::{offset_of_slice, slice_of};
-use crate::slice::byte_len;
-use crate::slice::search::{in_slice, rank_in_slice, select_in_slice};
-use crate::slice::testing::count_numbers;
+use crate::chunk::search::slice_of;
+use crate::slice::search::{in_slice, rank_in_slice};
+use crate::slice::{byte_len, size_of};
 
 /// A slice of a body of blocks, or the end of its slices. Other bodies have no slices, and only the first `Place`.
 #[repr(C)]
@@ -45,6 +44,23 @@ impl Place {
     }
 }
 
+/// How many numbers slices have, and how many bytes. Each count less 1 is given.
+// In one loop: each loop of few steps ends in a branch that is hard to predict.
+#[inline(always)]
+fn sums_of(counts: &[u8]) -> (usize, usize)
+    requires { length counts.now ≤ 256 }
+    ensures numbers { result.0 ≡ numbers_in counts.now }
+    ensures bytes { result.1 ≡ slices_len counts.now }
+{
+    let mut numbers: u32 = 0;
+    let mut bytes: u32 = 0;
+    for less in counts {
+        numbers += *less as u32 + 1;
+        bytes += size_of(*less) as u32;
+    }
+    (numbers as usize, bytes as usize)
+}
+
 impl<'a> Parts<'a> {
     ghost use Rattle.bitpack_slices.specs.Parts.{numbers_in_parts};
     ghost use Rattle.bitpack_slices.specs.Places.{IsPlace};
@@ -61,26 +77,12 @@ impl<'a> Parts<'a> {
         if index == place.index {
             return place;
         }
-        let passed = &self.counts[place.index..index];
+        let (numbers, bytes) = sums_of(&self.counts[place.index..index]);
         Place {
             index,
-            offset: self.offset_from(place, index),
-            before: place.before + count_numbers(passed),
+            offset: place.offset + bytes,
+            before: place.before + numbers,
         }
-    }
-
-    /// Where the slice with an index begins, which is not before this one. If each slice is bits, no count is read.
-    #[inline(always)]
-    fn offset_from(self, place: Place, index: usize) -> usize
-        requires place { IsPlace self.counts.now place }
-        requires later { place.index ≤ index }
-        requires within { index ≤ length self.counts.now }
-        ensures { result ≡ slices_len (take index self.entry.counts.now) }
-    {
-        if self.slices.len() == 32 * self.counts.len() {
-            return 32 * index;
-        }
-        place.offset + offset_of_slice(&self.counts[place.index..], index - place.index)
     }
 
     /// The slice that has the number at a position, which is not before this one.
@@ -124,15 +126,24 @@ impl<'a> Parts<'a> {
         }
         let here = self.place_of(place, index);
         if !in_slice(self.counts.len(), self.highs, high) {
-            return (here, here.before, self.first_at(index, here.offset));
+            return (
+                here,
+                here.before,
+                self.first_from(index, here.offset, high as usize),
+            );
         }
         let slice = self.slice_from(index, here.offset);
-        let left = rank_in_slice(slice.count, slice.bytes(), (number % 256) as u8);
+        let low = (number % 256) as u8;
+        let left = slice.rank(low);
         if left >= slice.count {
             let end = slice.start + byte_len(slice.count);
-            return (here, here.before + left, self.first_at(index + 1, end));
+            return (
+                here,
+                here.before + left,
+                self.first_from(index + 1, end, high as usize + 1),
+            );
         }
-        let low = select_in_slice(slice.count, slice.bytes(), left) as u16;
-        (here, here.before + left, Some(256 * high as u16 + low))
+        let first = slice.next(left, low) as u16;
+        (here, here.before + left, Some(256 * high as u16 + first))
     }
 }

@@ -1,14 +1,14 @@
 //! Looks numbers up in bodies.
 //! FORMAT.md, "Chunks".
 
-ghost use Rattle.std.specs.Prelude.{◌≡◌, ◌+◌, ◌*◌, ◌/◌, ◌^◌, ◌<◌, ◌≤◌, ◌++◌, drop, length, map, slice_get, slice_index, take};
+ghost use Rattle.std.specs.Prelude.{◌≡◌, ℕ, ◌+◌, ◌*◌, ◌/◌, ◌^◌, ◌<◌, ◌≤◌, ◌++◌, drop, length, map, replicate, slice_get, slice_index, take};
 ghost use Rattle.bitpack_slices.specs.Reads.{has, rank};
 ghost use Rattle.bitpack_slices.specs.Bodies.{IsRising};
 ghost use Rattle.bitpack_slices.specs.Selections.{numbers_at};
 ghost use Rattle.bitpack_slices.specs.Slices.{numbers_in, pairs_of, slice_len, slice_numbers, slices_len};
 
 use crate::chunk::parts::Parts;
-use crate::slice::search::{in_slice, rank_in_slice, select_in_slice};
+use crate::slice::search::{in_slice, next_in_slice, rank_in_slice, select_in_slice};
 use crate::slice::testing::count_numbers;
 use crate::slice::{Slice, byte_len, size_of};
 
@@ -40,7 +40,7 @@ impl<'a> Parts<'a> {
             return before;
         }
         let slice = self.slice_at(index);
-        before + rank_in_slice(slice.count, slice.bytes(), (number % 256) as u8)
+        before + slice.rank((number % 256) as u8)
     }
 
     /// How many numbers are below `number`, and the first that is not, if there is one.
@@ -52,17 +52,22 @@ impl<'a> Parts<'a> {
         let high = (number / 256) as u8;
         let index = rank_in_slice(self.counts.len(), self.highs, high);
         let before = count_numbers(&self.counts[..index]);
+        let offset = self.offset_of(index);
         if !in_slice(self.counts.len(), self.highs, high) {
-            return (before, self.first_at(index, self.offset_of(index)));
+            return (before, self.first_from(index, offset, high as usize));
         }
-        let slice = self.slice_at(index);
-        let left = rank_in_slice(slice.count, slice.bytes(), (number % 256) as u8);
+        let slice = self.slice_from(index, offset);
+        let low = (number % 256) as u8;
+        let left = slice.rank(low);
         if left >= slice.count {
             let end = slice.start + byte_len(slice.count);
-            return (before + left, self.first_at(index + 1, end));
+            return (
+                before + left,
+                self.first_from(index + 1, end, high as usize + 1),
+            );
         }
-        let low = select_in_slice(slice.count, slice.bytes(), left) as u16;
-        (before + left, Some(256 * high as u16 + low))
+        let first = slice.next(left, low) as u16;
+        (before + left, Some(256 * high as u16 + first))
     }
 
     /// The first number of the slice with this index, which begins at `offset`, if there is one.
@@ -78,6 +83,22 @@ impl<'a> Parts<'a> {
         let slice = self.slice_from(index, offset);
         let high = select_in_slice(self.counts.len(), self.highs, index) as u16;
         Some(256 * high + select_in_slice(slice.count, slice.bytes(), 0) as u16)
+    }
+
+    /// The first number of the slice with this index, which begins at `offset`, if there is one. As many high bytes are below `high`.
+    #[inline(always)]
+    pub(crate) fn first_from(self, index: usize, offset: usize, high: usize) -> Option<u16>
+        requires within { index ≤ length self.counts.now }
+        requires offset { offset ≡ slices_len (take index self.counts.now) }
+        requires high { index ≡ rank high (slice_numbers (length self.counts.now) self.highs.now) }
+        ensures { result ≡ slice_get (numbers_in_parts self.entry) (numbers_in (take index self.entry.counts.now)) }
+    {
+        if index >= self.counts.len() {
+            return None;
+        }
+        let slice = self.slice_from(index, offset);
+        let first = next_in_slice(self.counts.len(), self.highs, index, high) as u16;
+        Some(256 * first + slice.next(0, 0) as u16)
     }
 
     /// The number at this position.
@@ -172,18 +193,77 @@ pub(crate) fn slice_of(counts: &[u8], position: usize) -> (usize, usize)
     (index, left)
 }
 
-/// The index of the first byte of a slice among slices end to end. Each count less 1 is given.
+/// The index of the first byte of a slice among slices end to end. Each count less 1 is given. The counts are added 32 at once, and the last ones by
+/// masks: a loop over these takes a number of turns that is hard to predict.
+#[inline(never)]
 pub(crate) fn offset_of_slice(counts: &[u8], index: usize) -> usize
     requires within { index ≤ length counts.now }
     requires few { length counts.now ≤ 256 }
     ensures { result ≡ slices_len (take index counts.now) }
 {
-    let mut offset: u16 = 0;
-    for i in 0..index {
-        offset += size_of(counts[i]) as u16;
+    let whole = index / WINDOW * WINDOW;
+    if counts.len() - whole < WINDOW {
+        return size_of_slices(&counts[..index]);
     }
-    offset as usize
+    let last = size_of_first(&counts[whole..whole + WINDOW], index % WINDOW);
+    size_of_slices(&counts[..whole]) + last
 }
+
+/// How many counts are added with masks.
+const WINDOW: usize = 32;
+
+/// How many bytes slices have. Each count less 1 is given.
+#[inline(always)]
+fn size_of_slices(counts: &[u8]) -> usize
+    requires few { length counts.now ≤ 256 }
+    ensures { result ≡ slices_len counts.now }
+{
+    let mut sum: u16 = 0;
+    for less in counts {
+        sum += size_of(*less) as u16;
+    }
+    sum as usize
+}
+
+/// How many bytes the first of 32 slices have. Each count less 1 is given. It adds 0 for a later slice, and takes no branch.
+#[inline(always)]
+fn size_of_first(counts: &[u8], many: usize) -> usize
+    requires all { length counts.now ≡ 32 }
+    requires few { many ≤ 32 }
+    ensures few { result ≤ 1024 }
+    ensures size { result ≡ slices_len (take many counts.now) }
+{
+    let masks = masks_of_first(many);
+    let mut sum: u16 = 0;
+    for i in 0..WINDOW {
+        sum += (size_of(counts[i]) & masks[i]) as u16;
+    }
+    sum as usize
+}
+
+/// Of 32 bytes the first have all bits, the others none.
+#[inline(always)]
+fn masks_of_first(many: usize) -> &'static [u8]
+    requires { many ≤ 32 }
+    ensures len { length result.now ≡ 32 }
+    ensures all { (k : ℕ) → k < many → slice_index result.now k ≡ 255 }
+    ensures none { (k : ℕ) → many ≤ k → k < 32 → slice_index result.now k ≡ 0 }
+{
+    &masks()[WINDOW - many..2 * WINDOW - many]
+}
+
+#[inline(always)]
+fn masks() -> &'static [u8; 64]
+    ensures { result.now ≡ replicate 32 255 ++ replicate 32 0 }
+{
+    &MASKS
+}
+
+static MASKS: [u8; 2 * WINDOW] = [
+    255, 255, 255, 255, 255, 255, 255, 255, 255, 255, 255, 255, 255, 255, 255, 255, 255, 255, 255,
+    255, 255, 255, 255, 255, 255, 255, 255, 255, 255, 255, 255, 255, 0, 0, 0, 0, 0, 0, 0, 0, 0, 0,
+    0, 0, 0, 0, 0, 0, 0, 0, 0, 0, 0, 0, 0, 0, 0, 0, 0, 0, 0, 0, 0, 0,
+];
 
 /// The number at this position of a body of numbers.
 #[inline(always)]

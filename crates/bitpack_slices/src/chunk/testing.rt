@@ -1,11 +1,11 @@
 //! Tests bodies.
 //! FORMAT.md, "Chunks", and rule 12 of "Faults of a set".
 
-ghost use Rattle.std.specs.Prelude.{◌≡◌, ◌≢◌, ◌+◌, ◌*◌, ◌/◌, ◌^◌, ◌<◌, ◌≤◌, ℕ, length, None};
+ghost use Rattle.std.specs.Prelude.{◌≡◌, ◌≢◌, ◌+◌, ◌*◌, ◌/◌, ◌^◌, ◌<◌, ◌≤◌, ℕ, false, length, None};
 ghost use Rattle.std.specs.Bool.{Decides};
 ghost use Rattle.bitpack_slices.specs.Errors.{Finds};
 ghost use Rattle.bitpack_slices.specs.Faults.{blocks_fault, body_fault, runs_fault};
-ghost use Rattle.bitpack_slices.specs.Bodies.{blocks};
+ghost use Rattle.bitpack_slices.specs.Bodies.{blocks, parts};
 ghost use Rattle.bitpack_slices.specs.Runs.{runs_from};
 ghost use Rattle.bitpack_slices.specs.Slices.{IsBlocks, pairs_of};
 
@@ -31,8 +31,10 @@ pub fn test_body(chunk: usize, position: usize, count: usize, body: &[u8]) -> Re
         }
         return test_blocks(chunk, count, body);
     }
-    if let Some(position) = first_fall(position, body) {
-        return Err(SetError::NotSorted(position));
+    if has_fall(body) {
+        if let Some(position) = first_fall(position, body) {
+            return Err(SetError::NotSorted(position));
+        }
     }
     if count_in_numbers(body) <= most_bounds(count) || blocks_len(body) < 2 * count {
         return Err(SetError::LooseBody(chunk));
@@ -96,6 +98,31 @@ fn first_fall(position: usize, body: &[u8]) -> Option<usize>
     None
 }
 
+/// Whether a number of a body of numbers is not above the one before.
+fn has_fall(body: &[u8]) -> bool
+    requires { length body.now ≤ 131072 }
+    ensures { result ≡ false → (position : ℕ) → Rattle.bitpack_slices.specs.Slices.first_fall position (pairs_of body.now) ≡ None }
+{
+    let mut falls: u16 = 0;
+    for index in 1..body.len() / 2 {
+        falls += (number_at(body, index) <= number_at(body, index - 1)) as u16;
+    }
+    falls != 0
+}
+
+/// How many high bytes the numbers of a body of numbers have, each counted again if it comes after others.
+fn count_highs(body: &[u8]) -> usize
+    requires some { 2 ≤ length body.now }
+    requires few { length body.now ≤ 131072 }
+    ensures { result ≡ length (parts 256 (pairs_of body.now)) }
+{
+    let mut highs: u32 = 1;
+    for index in 1..body.len() / 2 {
+        highs += (number_at(body, index) / 256 != number_at(body, index - 1) / 256) as u32;
+    }
+    highs as usize
+}
+
 /// A slice that is counted: its high byte, how many numbers it has; and how many slices there are with it, and how many bytes the others
 /// have.
 #[derive(Clone, Copy)]
@@ -106,8 +133,24 @@ struct Run {
     size: usize,
 }
 
-/// How many bytes the numbers of a body of numbers would take as blocks. It counts from the last number on.
+/// How many bytes the numbers of a body of numbers would take as blocks.
 fn blocks_len(body: &[u8]) -> usize
+    requires some { 2 ≤ length body.now }
+    requires few { length body.now ≤ 131072 }
+    ensures { result ≡ length (blocks (pairs_of body.now)) }
+{
+    let many = body.len() / 2;
+    let slices = count_highs(body);
+    // With so few numbers after the first of their slices, each slice is bytes.
+    if many - slices < 31 {
+        return 1 + byte_len(slices) + slices + many;
+    }
+    blocks_len_by_slice(body)
+}
+
+/// How many bytes the numbers of a body of numbers would take as blocks. It counts from the last number on.
+#[inline(never)]
+fn blocks_len_by_slice(body: &[u8]) -> usize
     requires some { 2 ≤ length body.now }
     requires few { length body.now ≤ 131072 }
     ensures { result ≡ length (blocks (pairs_of body.now)) }
@@ -159,12 +202,11 @@ pub(crate) fn is_blocks(count: usize, body: &[u8]) -> bool
     }
     let highs = &body[1..1 + size];
     let counts = &body[1 + size..1 + size + many];
-    let slices = &body[1 + size + many..];
     if !is_slice(many, highs) {
         return false;
     }
     if count_numbers(counts) != count {
         return false;
     }
-    are_slices(counts, slices)
+    are_slices(counts, count, &body[size + many..])
 }

@@ -1,9 +1,10 @@
 //! Which bytes of a slice another slice has: a bit for each.
 //! FORMAT.md, "Chunks".
 
-ghost use Rattle.std.specs.Prelude.{◌≡◌, ℕ, ◌+◌, ◌/◌, ◌%◌, ◌^◌, ◌<◌, ◌≤◌, ◌&&◌, ◌==◌, ◌++◌, if◌then◌else◌, length, nat_lt, slice_index};
+ghost use Rattle.std.specs.Prelude.{◌≡◌, ℕ, ◌+◌, ◌/◌, ◌%◌, ◌^◌, ◌<◌, ◌≤◌, ◌&&◌, ◌==◌, ◌++◌, if◌then◌else◌, length, nat_lt, slice_index, take};
 ghost use Rattle.std.specs.Int.{bit_at};
-ghost use Rattle.bitpack_slices.specs.Reads.{has};
+ghost use Rattle.bitpack_slices.specs.Bodies.{IsRising};
+ghost use Rattle.bitpack_slices.specs.Reads.{has, rank};
 ghost use Rattle.bitpack_slices.specs.Slices.{number_of, ones_from};
 
 use std::simd::prelude::*;
@@ -51,6 +52,18 @@ pub(crate) fn matches_of_bytes(bytes: u8x32, count: usize, others: &[u8]) -> u32
     }
     let matches = found.simd_eq(u8x32::splat(255)).to_bitmask();
     matches as u32 & ((1 << count) - 1)
+}
+
+/// How many of the first `count` bytes, which increase, are below a number.
+#[inline(always)]
+pub(crate) fn rank_of_bytes(bytes: u8x32, count: usize, number: u8) -> usize
+    requires length { length bytes ≡ 32 }
+    requires count { count < 32 }
+    requires rising { IsRising 0 256 (take count bytes) }
+    ensures { result ≡ rank number (take count bytes) }
+{
+    let others = u8x32::splat(number).simd_le(bytes).to_bitmask();
+    (others.trailing_zeros() as usize).min(count)
 }
 
 /// All bits of each byte that is one of four others, and no bit of the rest.

@@ -5,7 +5,7 @@ ghost use Rattle.std.specs.Prelude.{◌≡◌, ◌+◌, ◌*◌, ◌/◌, ◌^�
 ghost use Rattle.bitpack_slices.specs.Reads.{has, rank};
 ghost use Rattle.bitpack_slices.specs.Slices.{IsSlice, number_of, ones_from, slice_len, slice_numbers};
 
-use crate::bitmap::single_bits::{counts_before, rank_of_bit};
+use crate::bitmap::single_bits::{counts_before, first_bit, rank_of_bit};
 use crate::slice::reading::{word_at, words_of};
 
 /// Whether a slice of `count` numbers has this one.
@@ -72,12 +72,32 @@ fn rank_in_bytes(bytes: &[u8], number: u8) -> usize
 }
 
 /// How many bits before the bit of a number are 1.
-fn rank_in_bits(bytes: &[u8], number: u8) -> usize
+#[inline(always)]
+pub(crate) fn rank_in_bits(bytes: &[u8], number: u8) -> usize
     requires { length bytes.now ≡ 32 }
     ensures { result ≡ rank number (ones_from (number_of bytes.now) 0 256) }
 {
     let words = words_of(bytes);
     rank_of_bit(&words, &counts_before(&words), number as usize)
+}
+
+/// The first number of a slice of `count` that is not below a number, if there is one. Its position is given.
+#[inline(always)]
+pub(crate) fn next_in_slice(count: usize, bytes: &[u8], position: usize, number: usize) -> u8
+    requires count { count ≤ 256 }
+    requires size { length bytes.now ≡ slice_len count }
+    requires slice { IsSlice count bytes.now }
+    requires position { position ≡ rank number (slice_numbers count bytes.now) }
+    requires within { position < count }
+    ensures { result ≡ slice_index (slice_numbers count bytes.now) position }
+{
+    if count < 32 {
+        bytes[position]
+    } else if count < 256 {
+        first_bit(&words_of(bytes), number) as u8
+    } else {
+        position as u8
+    }
 }
 
 /// The number at this position of a slice of `count`.

@@ -100,7 +100,7 @@ pub bytes_are : (xs : List ℕ) → ((k : ℕ) → get_or xs k 0 < 256) → Each
 bytes_are [] h = tt
 bytes_are (x ∷ xs) h = (h 0, bytes_are xs (λ k. h (suc k)))
 
-later_rise : (x : ℕ) (xs : List ℕ) → IsStrictlyIncreasing (x ∷ xs) → IsStrictlyIncreasing xs
+pub later_rise : (x : ℕ) (xs : List ℕ) → IsStrictlyIncreasing (x ∷ xs) → IsStrictlyIncreasing xs
 later_rise x xs h k lt =
     let e : suc k + 1 ≡ suc (k + 1) = omega arith in
     subst (λ (n : ℕ). get_or (x ∷ xs) (suc k) 0 < get_or (x ∷ xs) n 0) e (h (suc k) (omega arith))

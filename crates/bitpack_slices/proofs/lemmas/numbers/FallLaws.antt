@@ -112,7 +112,7 @@ slices_len (p ∷ ps) =
     omega arith
 
 -- the length of blocks
-blocks_size : (ps : List (ℕ × List ℕ)) → length (blocks_of ps) ≡ 1 + slice_len (length ps) + length ps + sizes ps
+pub blocks_size : (ps : List (ℕ × List ℕ)) → length (blocks_of ps) ≡ 1 + slice_len (length ps) + length ps + sizes ps
 unfolding blocks_of
 blocks_size ps =
     let h : List ℕ = slice (map (λ part. part.0) ps) in

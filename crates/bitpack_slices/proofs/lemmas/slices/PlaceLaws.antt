@@ -1,6 +1,6 @@
 -- A place among slices, and those after it.
 use Rattle.std.proofs.Common.{◌≡◌, ℕ, ◌+◌, ◌-◌, ◌<◌, ◌≤◌, ◌/◌, ◌%◌, Bool, true, false, List, ◌++◌, ap, arith, drop, length, length-drop, refl, sym, take, take-add, ◌∙◌}
-use Rattle.std.proofs.lemmas.List.{drop-drop, length-take-le, take_all}
+use Rattle.std.proofs.lemmas.List.{drop-drop, length-take-le}
 use Rattle.bitpack_slices.proofs.lemmas.bodies.BlockReads.{numbers_few, rank_not_there, rank_there, slice_there}
 use Rattle.bitpack_slices.proofs.lemmas.bodies.CutLaws.{lens_append}
 use Rattle.bitpack_slices.proofs.lemmas.bodies.ReadLaws.{rank_le, slice_at}
@@ -12,19 +12,10 @@ use Rattle.bitpack_slices.specs.Reads.{has, rank}
 use Rattle.bitpack_slices.specs.Slices.{AreSlices, numbers_in, numbers_of, slices_len}
 
 -- the sizes and counts of the slices between two
-lens_passed : (counts : List ℕ) (i j : ℕ) → i ≤ j → slices_len (take j counts) ≡ slices_len (take i counts) + slices_len (take (j - i) (drop i counts))
+pub lens_passed : (counts : List ℕ) (i j : ℕ) → i ≤ j → slices_len (take j counts) ≡ slices_len (take i counts) + slices_len (take (j - i) (drop i counts))
 lens_passed counts i j le =
     let e : j ≡ i + (j - i) = omega arith in
     ap (λ (n : ℕ). slices_len (take n counts)) e ∙ ap slices_len (take-add i (j - i) counts) ∙ lens_append (take i counts) (take (j - i) (drop i counts))
-
--- they are counted among the slices from the first of the two on
-pub cut_passed : (counts : List ℕ) (i j : ℕ) → i ≤ j → j ≤ length counts
-    → slices_len (take j counts) ≡ slices_len (take i counts) + slices_len (take (j - i) (take (length counts - i) (drop i counts)))
-cut_passed counts i j le within =
-    let all : take (length counts - i) (drop i counts) ≡ drop i counts = take_all (length counts - i) (drop i counts) (omega (arith, length-drop i counts)) in
-    let same = ap (λ (l : List ℕ). slices_len (take (j - i) l)) all in
-    let passed = lens_passed counts i j le in
-    omega arith
 
 pub numbers_passed : (counts : List ℕ) (i j : ℕ) → i ≤ j → numbers_in (take j counts) ≡ numbers_in (take i counts) + numbers_in (take (j - i) (drop i counts))
 numbers_passed counts i j le =

@@ -25,7 +25,7 @@ unfolding slices_len
 lens_few [] = omega arith
 lens_few (x ∷ xs) = let rest = lens_few xs in let own = len_few (x + 1) in omega arith
 
-lens_parts : (n m : ℕ) (xs : List ℕ) → slices_len (take (n + m) xs) ≡ slices_len (take n xs) + slices_len (take m (drop n xs))
+pub lens_parts : (n m : ℕ) (xs : List ℕ) → slices_len (take (n + m) xs) ≡ slices_len (take n xs) + slices_len (take m (drop n xs))
 lens_parts n m xs = ap slices_len (take-add n m xs) ∙ lens_append (take n xs) (take m (drop n xs))
 
 -- ---- running sums of sizes

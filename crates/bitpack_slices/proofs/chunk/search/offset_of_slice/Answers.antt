@@ -1,16 +1,25 @@
--- One slice more is passed.
-use Rattle.std.proofs.Common.{arith, get_or, sym, ◌+◌}
-use Rattle.bitpack_slices.proofs.lemmas.bodies.CutLaws.{len_few, lens_more, lens_none}
+-- Whole windows, and the first slices of the next one.
+use Rattle.std.proofs.Common.{◌≡◌, ◌+◌, ◌-◌, ◌*◌, ◌/◌, ◌%◌, ℕ, List, ap, arith, drop, take}
+use Rattle.std.proofs.lemmas.List.{length-take-le, take-take}
+use Rattle.bitpack_slices.proofs.lemmas.slices.SumsLaws.{lens_few, lens_parts}
 use Rattle.bitpack_slices.proofs.chunk.search.offset_of_slice.Goals as goal
+use Rattle.bitpack_slices.specs.Slices.{slices_len}
 
-pub loop-i-init : goal.loop-i-init
-loop-i-init c = record { few = omega arith; passed = sym (lens_none c.args.counts.now) }
+pub overflow_add-result : goal.overflow_add-result
+overflow_add-result c =
+    let whole : ℕ = c.args.index / 32 * 32 in
+    let few = lens_few (take whole c.args.counts.now) in
+    omega (arith, length-take-le whole c.args.counts.now (omega arith))
 
-pub loop-i-preserved : goal.loop-i-preserved
-loop-i-preserved c =
-    let next = lens_more c.args.counts.now c.loop-i.i (omega arith) in
-    let few = len_few (get_or c.args.counts.now c.loop-i.i 0 + 1) in
-    record { few = omega arith; passed = omega arith }
-
-pub overflow_add-offset : goal.overflow_add-offset
-overflow_add-offset c = let few = len_few (get_or c.args.counts.now c.loop-i.i 0 + 1) in omega arith
+pub returns : goal.returns
+returns c =
+    let counts : List ℕ = c.args.counts.now in
+    let index : ℕ = c.args.index in
+    let whole : ℕ = index / 32 * 32 in
+    let both : whole + index % 32 ≡ index = omega arith in
+    let parts = lens_parts whole (index % 32) counts in
+    let all = ap (λ (k : ℕ). slices_len (take k counts)) both in
+    let window : whole + 32 - whole ≡ 32 = omega arith in
+    let cut = ap (λ (k : ℕ). slices_len (take (index % 32) (take k (drop whole counts)))) window in
+    let last = ap slices_len (take-take (index % 32) 32 (drop whole counts) (omega arith)) in
+    omega arith

@@ -1,13 +1,13 @@
 -- The parts are tested in turn.
 use Rattle.std.proofs.Common.{◌≡◌, ℕ, ◌+◌, ◌-◌, ◌<◌, ◌≤◌, ◌∙◌, Bool, List, arith, ap, sym, subst, take, drop, length, get_or}
 use Rattle.std.specs.Bool.{Decides}
-use Rattle.std.proofs.lemmas.List.{take_rest}
+use Rattle.std.proofs.lemmas.List.{drop-drop, take_rest}
 use Rattle.bitpack_slices.proofs.chunk.testing.is_blocks.Goals as goal
 use Rattle.bitpack_slices.specs.Slices.{AreSlices, IsBlocks, IsSlice, numbers_in, slice_len}
 
 -- the slices as the code cuts them
 abbrev Cut : ℕ → ℕ → List ℕ → Type 0
-Cut size many body = AreSlices (take (1 + size + many - (1 + size)) (drop (1 + size) body)) (take (length body - (1 + size + many)) (drop (1 + size + many) body))
+Cut size many body = AreSlices (take (1 + size + many - (1 + size)) (drop (1 + size) body)) (drop 1 (take (length body - (size + many)) (drop (size + many) body)))
 
 abbrev Whole : ℕ → ℕ → List ℕ → Type 0
 Whole size many body = AreSlices (take many (drop (1 + size) body)) (drop (1 + size + many) body)
@@ -15,8 +15,10 @@ Whole size many body = AreSlices (take many (drop (1 + size) body)) (drop (1 + s
 cut_is : (size many : ℕ) (body : List ℕ) → Cut size many body ≡ Whole size many body
 cut_is size many body =
     let e : 1 + size + many - (1 + size) ≡ many = omega arith in
-    ap (λ (m : ℕ). AreSlices (take m (drop (1 + size) body)) (take (length body - (1 + size + many)) (drop (1 + size + many) body))) e
-    ∙ ap (λ (l : List ℕ). AreSlices (take many (drop (1 + size) body)) l) (take_rest body (1 + size + many))
+    let f : size + many + 1 ≡ 1 + size + many = omega arith in
+    ap (λ (m : ℕ). AreSlices (take m (drop (1 + size) body)) (drop 1 (take (length body - (size + many)) (drop (size + many) body)))) e
+    ∙ ap (λ (l : List ℕ). AreSlices (take many (drop (1 + size) body)) (drop 1 l)) (take_rest body (size + many))
+    ∙ ap (AreSlices (take many (drop (1 + size) body))) (drop-drop 1 (size + many) body ∙ ap (λ (n : ℕ). drop n body) f)
 
 decided : (count size : ℕ) (body : List ℕ) (r : Bool) → size ≡ slice_len (get_or body 0 0 + 1) → 0 < length body → 1 + size + (get_or body 0 0 + 1) ≤ length body
     → IsSlice (get_or body 0 0 + 1) (take (1 + size - 1) (drop 1 body))

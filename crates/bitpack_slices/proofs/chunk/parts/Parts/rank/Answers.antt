@@ -38,13 +38,10 @@ overflow_add-result c =
     let slice = c.slice_at-slice.result in
     let less = rank_le (c.args.number % 256) (numbers_at slice) in
     let own = slice.there.slice.count_is in
-    let byte = c.args.self.are_bytes index in
-    let is = ap (λ (l : List ℕ). rank (c.args.number % 256) (slice_numbers slice.count l)) c.bytes.ensures in
-    omega (arith, c.count_numbers-before.ensures, c.rank_in_slice.ensures, slice.there.few)
+    omega (arith, c.count_numbers-before.ensures, c.rank.ensures, slice.there.few)
 
 pub returns : goal.returns
 returns c =
-    let slice = c.slice_at-slice.result in
-    let same = ap (λ (l : List ℕ). rank (c.args.number % 256) (slice_numbers slice.count l)) c.bytes.ensures ∙ ap (rank (c.args.number % 256)) c.slice_at-slice.ensures.numbers in
-    ranked c.args.number c.rank_in_slice-index.result c.count_numbers-before.result c.rank_in_slice.result (slice_numbers (length c.args.self.counts.now) c.args.self.highs.now) c.args.self.counts.now c.args.self.slices.now
-    c.args.self.occur.count_is c.args.self.occur.rising c.args.self.are c.rank_in_slice-index.ensures (sym c.in_slice.ensures ∙ c.if-not-in_slice.false) c.count_numbers-before.ensures (c.rank_in_slice.ensures ∙ same)
+    ranked c.args.number c.rank_in_slice-index.result c.count_numbers-before.result c.rank.result (slice_numbers (length c.args.self.counts.now) c.args.self.highs.now) c.args.self.counts.now c.args.self.slices.now
+    c.args.self.occur.count_is c.args.self.occur.rising c.args.self.are c.rank_in_slice-index.ensures (sym c.in_slice.ensures ∙ c.if-not-in_slice.false) c.count_numbers-before.ensures
+    (c.rank.ensures ∙ ap (rank (c.args.number % 256)) c.slice_at-slice.ensures.numbers)

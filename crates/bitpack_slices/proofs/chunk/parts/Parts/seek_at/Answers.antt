@@ -1,42 +1,25 @@
 -- The numbers of the slices before that of the high byte, and those of its own, if the place is not after it; then the number there, or the first of the next slice.
-use Rattle.std.proofs.Common.{◌≡◌, ◌∙◌, ◌+◌, ◌*◌, ◌/◌, ◌%◌, ◌<◌, ◌≤◌, ℕ, List, drop, slice_get, true, ap, sym, arith, get_or, length, max, subst, take}
+use Rattle.std.proofs.Common.{◌≡◌, ◌∙◌, ◌+◌, ◌*◌, ◌/◌, ◌%◌, ◌<◌, ◌≤◌, ℕ, List, drop, slice_get, true, ap, sym, arith, get_or, length, max, take}
 use Rattle.std.proofs.Math.Nat.{max-eq_left, max-eq_right}
-use Rattle.std.proofs.lemmas.Bool.{eqb-true}
 use Rattle.bitpack_slices.proofs.lemmas.bodies.BlockReads.{at_most, below_counts, rank_not_there, ranked}
 use Rattle.bitpack_slices.proofs.lemmas.bits.CountLaws.{bytes_are}
 use Rattle.bitpack_slices.proofs.lemmas.bodies.CutLaws.{lens_more}
-use Rattle.bitpack_slices.proofs.lemmas.bodies.ReadLaws.{rank_le, rank_less, slice_at}
-use Rattle.bitpack_slices.proofs.lemmas.numbers.HalfLaws.{has_at_rank}
+use Rattle.bitpack_slices.proofs.lemmas.bodies.ReadLaws.{slice_at}
 use Rattle.bitpack_slices.proofs.lemmas.numbers.SelectLaws.{numbers_more, numbers_to, slice_found}
 use Rattle.bitpack_slices.proofs.lemmas.slices.PlaceLaws.{numbers_few_to, numbers_left, numbers_passed, rank_before}
+use Rattle.bitpack_slices.proofs.lemmas.slices.RankLaws.{own_few, rank_next, there_is}
 use Rattle.bitpack_slices.proofs.chunk.parts.Parts.seek_at.Goals as goal
 use Rattle.bitpack_slices.specs.Reads.{has, rank}
-use Rattle.bitpack_slices.specs.Bodies.{IsRising}
 use Rattle.bitpack_slices.specs.Parts.{numbers_in_parts}
 use Rattle.bitpack_slices.specs.Places.{IsPlace}
-use Rattle.bitpack_slices.specs.Selections.{bytes_of, numbers_at}
-use Rattle.bitpack_slices.specs.Slices.{IsSlice, numbers_in, slice_len, slice_numbers, slices_len}
+use Rattle.bitpack_slices.specs.Selections.{numbers_at}
+use Rattle.bitpack_slices.specs.Slices.{numbers_in, slice_len, slice_numbers, slices_len}
 use Rattle.bitpack_slices.specs.declared.chunk.parts.Parts.{Parts}
 use Rattle.bitpack_slices.specs.declared.chunk.place.Place.{Place}
 use Rattle.bitpack_slices.specs.declared.slice.Slice.{Slice}
 
 abbrev highs_of : Parts → List ℕ
 highs_of parts = slice_numbers (length parts.counts.now) parts.highs.now
-
--- how many of a slice are below a number
-own_rank : (left x : ℕ) (slice : Slice) (bytes : List ℕ) → bytes ≡ bytes_of slice → left ≡ rank x (slice_numbers slice.count bytes) → left ≡ rank x (numbers_at slice)
-own_rank left x slice bytes e r = r ∙ ap (λ (l : List ℕ). rank x (slice_numbers slice.count l)) e
-
-own_few : (left x : ℕ) (slice : Slice) (bytes : List ℕ) → bytes ≡ bytes_of slice → left ≡ rank x (slice_numbers slice.count bytes) → (left ≤ slice.count) × (slice.count ≤ 256)
-own_few left x slice bytes e r =
-    let most = rank_le x (numbers_at slice) in
-    let size = slice.there.slice.count_is in
-    let is = own_rank left x slice bytes e r in
-    (omega arith, slice.there.few)
-
--- the high byte that occurs is that of its slice
-high_is : (x i : ℕ) (hs : List ℕ) → IsRising 0 256 hs → i ≡ rank x hs → has x hs ≡ true → get_or hs i 0 ≡ x
-high_is x i hs r e h = let less = rank_less x hs h in eqb-true (get_or hs i 0) x (sym (has_at_rank x 0 256 i hs r e (omega arith)) ∙ h)
 
 -- as many numbers are before the slice with an index
 before_is : (counts : List ℕ) (i : ℕ) (here : Place) → IsPlace counts here → here.index ≡ i → here.before ≡ numbers_in (take i counts)
@@ -50,11 +33,11 @@ not_after : (counts : List ℕ) (i : ℕ) (place : Place) → IsPlace counts pla
 not_after counts i place is le = let passed = numbers_passed counts place.index i le in let e = is.before_is in omega arith
 
 -- the rank of a number whose high byte occurs, from the place of its slice on
-rank_is : (parts : Parts) (x i before left : ℕ) (slice : Slice) (bytes : List ℕ) (place : Place) → IsPlace parts.counts.now place → place.index ≤ i → i ≡ rank (x / 256) (highs_of parts)
-    → has (x / 256) (highs_of parts) ≡ true → before ≡ numbers_in (take i parts.counts.now) → bytes ≡ bytes_of slice → left ≡ rank (x % 256) (slice_numbers slice.count bytes)
+rank_is : (parts : Parts) (x i before left : ℕ) (slice : Slice) (place : Place) → IsPlace parts.counts.now place → place.index ≤ i → i ≡ rank (x / 256) (highs_of parts)
+    → has (x / 256) (highs_of parts) ≡ true → before ≡ numbers_in (take i parts.counts.now) → left ≡ rank (x % 256) (numbers_at slice)
     → numbers_at slice ≡ slice_at i parts.counts.now parts.slices.now → before + left ≡ max place.before (rank x (numbers_in_parts parts))
-rank_is parts x i before left slice bytes place is le e h b s l n =
-    let whole = ranked x i before left (highs_of parts) parts.counts.now parts.slices.now parts.occur.count_is parts.occur.rising parts.are e h b (own_rank left (x % 256) slice bytes s l ∙ ap (rank (x % 256)) n) in
+rank_is parts x i before left slice place is le e h b l n =
+    let whole = ranked x i before left (highs_of parts) parts.counts.now parts.slices.now parts.occur.count_is parts.occur.rising parts.are e h b (l ∙ ap (rank (x % 256)) n) in
     let some = not_after parts.counts.now i place is le in
     whole ∙ sym (max-eq_right {n = place.before} {m = rank x (numbers_in_parts parts)} (omega arith))
 
@@ -80,16 +63,16 @@ returns-then-not-in_slice-clause-rank c =
     let some = not_after parts.counts.now i c.args.place c.requires.place (omega (arith, c.if-index-place.false)) in
     here ∙ sym none ∙ sym (max-eq_right {n = c.args.place.before} {m = rank c.args.number (numbers_in_parts parts)} (omega arith))
 
-pub first_at-requires-then-not-in_slice-clause-within : goal.first_at-requires-then-not-in_slice-clause-within
-first_at-requires-then-not-in_slice-clause-within c = at_most c.rank_in_slice-index.result (c.args.number / 256) (highs_of c.args.self) c.args.self.counts.now c.rank_in_slice-index.ensures c.args.self.occur.count_is
+pub first_from-requires-clause-within : goal.first_from-requires-clause-within
+first_from-requires-clause-within c = at_most c.rank_in_slice-index.result (c.args.number / 256) (highs_of c.args.self) c.args.self.counts.now c.rank_in_slice-index.ensures c.args.self.occur.count_is
 
-pub first_at-requires-then-not-in_slice-clause-offset : goal.first_at-requires-then-not-in_slice-clause-offset
-first_at-requires-then-not-in_slice-clause-offset c = offset_is c.args.self.counts.now c.rank_in_slice-index.result c.place_of-here.result c.place_of-here.ensures.place c.place_of-here.ensures.index
+pub first_from-requires-clause-offset : goal.first_from-requires-clause-offset
+first_from-requires-clause-offset c = offset_is c.args.self.counts.now c.rank_in_slice-index.result c.place_of-here.result c.place_of-here.ensures.place c.place_of-here.ensures.index
 
 pub returns-then-not-in_slice-clause-first : goal.returns-then-not-in_slice-clause-first
 returns-then-not-in_slice-clause-first c =
     let here = before_is c.args.self.counts.now c.rank_in_slice-index.result c.place_of-here.result c.place_of-here.ensures.place c.place_of-here.ensures.index in
-    c.first_at-then-not-in_slice.ensures ∙ ap (slice_get (numbers_in_parts c.args.self)) (sym here)
+    c.first_from.ensures ∙ ap (slice_get (numbers_in_parts c.args.self)) (sym here)
 
 pub slice_from-slice-requires-clause-within : goal.slice_from-slice-requires-clause-within
 slice_from-slice-requires-clause-within c =
@@ -105,7 +88,7 @@ overflow_add-result c =
     let i : ℕ = c.rank_in_slice-index.result in
     let here = before_is parts.counts.now i c.place_of-here.result c.place_of-here.ensures.place c.place_of-here.ensures.index in
     let most = numbers_few_to parts.counts.now i (bytes_are parts.counts.now parts.are_bytes) (at_most i (c.args.number / 256) (highs_of parts) parts.counts.now c.rank_in_slice-index.ensures parts.occur.count_is) parts.few in
-    let less = own_few c.rank_in_slice-left.result (c.args.number % 256) c.slice_from-slice.result _ c.bytes.ensures c.rank_in_slice-left.ensures in
+    let less = own_few c.rank-left.result (c.args.number % 256) c.slice_from-slice.result c.rank-left.ensures in
     omega arith
 
 pub overflow_add-result-2 : goal.overflow_add-result-2
@@ -122,14 +105,18 @@ overflow_add-index c =
     (sym c.in_slice.ensures ∙ c.if-not-in_slice.false) c.args.self.occur.count_is in
     omega (arith, c.args.self.few)
 
-pub first_at-requires-then-left-slice-clause-within : goal.first_at-requires-then-left-slice-clause-within
-first_at-requires-then-left-slice-clause-within c =
+pub first_from-requires-then-left-slice-clause-within : goal.first_from-requires-then-left-slice-clause-within
+first_from-requires-then-left-slice-clause-within c =
     let less = below_counts c.rank_in_slice-index.result (c.args.number / 256) (highs_of c.args.self) c.args.self.counts.now c.rank_in_slice-index.ensures
     (sym c.in_slice.ensures ∙ c.if-not-in_slice.false) c.args.self.occur.count_is in
     omega arith
 
-pub first_at-requires-then-left-slice-clause-offset : goal.first_at-requires-then-left-slice-clause-offset
-first_at-requires-then-left-slice-clause-offset c =
+pub first_from-requires-then-left-slice-clause-high : goal.first_from-requires-then-left-slice-clause-high
+first_from-requires-then-left-slice-clause-high c =
+    rank_next (c.args.number / 256) 0 256 c.rank_in_slice-index.result (highs_of c.args.self) c.args.self.occur.rising c.rank_in_slice-index.ensures (sym c.in_slice.ensures ∙ c.if-not-in_slice.false)
+
+pub first_from-requires-then-left-slice-clause-offset : goal.first_from-requires-then-left-slice-clause-offset
+first_from-requires-then-left-slice-clause-offset c =
     let i : ℕ = c.rank_in_slice-index.result in
     let counts : List ℕ = c.args.self.counts.now in
     let less = below_counts i (c.args.number / 256) (highs_of c.args.self) counts c.rank_in_slice-index.ensures (sym c.in_slice.ensures ∙ c.if-not-in_slice.false) c.args.self.occur.count_is in
@@ -150,8 +137,8 @@ returns-then-left-slice-clause-rank c =
     let i : ℕ = c.rank_in_slice-index.result in
     let here = before_is parts.counts.now i c.place_of-here.result c.place_of-here.ensures.place c.place_of-here.ensures.index in
     let own = slice_is parts.counts.now parts.slices.now i c.place_of-here.result c.slice_from-slice.result c.place_of-here.ensures.place c.place_of-here.ensures.index c.slice_from-slice.ensures.numbers in
-    rank_is parts c.args.number i c.place_of-here.result.before c.rank_in_slice-left.result c.slice_from-slice.result _ c.args.place c.requires.place (omega (arith, c.if-index-place.false)) c.rank_in_slice-index.ensures
-    (sym c.in_slice.ensures ∙ c.if-not-in_slice.false) here c.bytes.ensures c.rank_in_slice-left.ensures own
+    rank_is parts c.args.number i c.place_of-here.result.before c.rank-left.result c.slice_from-slice.result c.args.place c.requires.place (omega (arith, c.if-index-place.false)) c.rank_in_slice-index.ensures
+    (sym c.in_slice.ensures ∙ c.if-not-in_slice.false) here c.rank-left.ensures own
 
 pub returns-clause-rank : goal.returns-clause-rank
 returns-clause-rank c =
@@ -159,8 +146,8 @@ returns-clause-rank c =
     let i : ℕ = c.rank_in_slice-index.result in
     let here = before_is parts.counts.now i c.place_of-here.result c.place_of-here.ensures.place c.place_of-here.ensures.index in
     let own = slice_is parts.counts.now parts.slices.now i c.place_of-here.result c.slice_from-slice.result c.place_of-here.ensures.place c.place_of-here.ensures.index c.slice_from-slice.ensures.numbers in
-    rank_is parts c.args.number i c.place_of-here.result.before c.rank_in_slice-left.result c.slice_from-slice.result _ c.args.place c.requires.place (omega (arith, c.if-index-place.false)) c.rank_in_slice-index.ensures
-    (sym c.in_slice.ensures ∙ c.if-not-in_slice.false) here c.bytes.ensures c.rank_in_slice-left.ensures own
+    rank_is parts c.args.number i c.place_of-here.result.before c.rank-left.result c.slice_from-slice.result c.args.place c.requires.place (omega (arith, c.if-index-place.false)) c.rank_in_slice-index.ensures
+    (sym c.in_slice.ensures ∙ c.if-not-in_slice.false) here c.rank-left.ensures own
 
 -- the slice has no number that large
 pub returns-then-left-slice-clause-first : goal.returns-then-left-slice-clause-first
@@ -168,28 +155,25 @@ returns-then-left-slice-clause-first c =
     let i : ℕ = c.rank_in_slice-index.result in
     let counts : List ℕ = c.args.self.counts.now in
     let less = below_counts i (c.args.number / 256) (highs_of c.args.self) counts c.rank_in_slice-index.ensures (sym c.in_slice.ensures ∙ c.if-not-in_slice.false) c.args.self.occur.count_is in
-    let few = own_few c.rank_in_slice-left.result (c.args.number % 256) c.slice_from-slice.result _ c.bytes.ensures c.rank_in_slice-left.ensures in
+    let few = own_few c.rank-left.result (c.args.number % 256) c.slice_from-slice.result c.rank-left.ensures in
     let here = before_is counts i c.place_of-here.result c.place_of-here.ensures.place c.place_of-here.ensures.index in
-    let past : numbers_in (take (i + 1) counts) ≡ c.place_of-here.result.before + c.rank_in_slice-left.result =
+    let past : numbers_in (take (i + 1) counts) ≡ c.place_of-here.result.before + c.rank-left.result =
     omega (arith, numbers_more counts i less, c.slice_from-slice.ensures.count, c.if-left-slice.true) in
-    c.first_at-then-left-slice.ensures ∙ ap (slice_get (numbers_in_parts c.args.self)) past
-
-pub select_in_slice-low-requires-clause-slice : goal.select_in_slice-low-requires-clause-slice
-select_in_slice-low-requires-clause-slice c = subst (IsSlice c.slice_from-slice.result.count) (sym c.bytes-2.ensures) c.slice_from-slice.result.there.slice
+    c.first_from-then-left-slice.ensures ∙ ap (slice_get (numbers_in_parts c.args.self)) past
 
 pub returns-clause-first : goal.returns-clause-first
 returns-clause-first c =
     let parts = c.args.self in
     let i : ℕ = c.rank_in_slice-index.result in
-    let left : ℕ = c.rank_in_slice-left.result in
+    let left : ℕ = c.rank-left.result in
     let counts : List ℕ = parts.counts.now in
     let hs : List ℕ = highs_of parts in
     let found = sym c.in_slice.ensures ∙ c.if-not-in_slice.false in
     let less = below_counts i (c.args.number / 256) hs counts c.rank_in_slice-index.ensures found parts.occur.count_is in
-    let high : get_or hs i 0 ≡ c.args.number / 256 = high_is (c.args.number / 256) i hs parts.occur.rising c.rank_in_slice-index.ensures found in
+    let high : get_or hs i 0 ≡ c.args.number / 256 = there_is (c.args.number / 256) 0 256 i hs parts.occur.rising c.rank_in_slice-index.ensures found in
     let here = before_is counts i c.place_of-here.result c.place_of-here.ensures.place c.place_of-here.ensures.index in
     let own = slice_is counts parts.slices.now i c.place_of-here.result c.slice_from-slice.result c.place_of-here.ensures.place c.place_of-here.ensures.index c.slice_from-slice.ensures.numbers in
-    let low = c.select_in_slice-low.ensures ∙ ap (λ (l : List ℕ). get_or (slice_numbers c.slice_from-slice.result.count l) left 0) c.bytes-2.ensures ∙ ap (λ (l : List ℕ). get_or l left 0) own in
+    let low = c.next-first.ensures ∙ ap (λ (l : List ℕ). get_or l left 0) own in
     slice_found _ i left (c.place_of-here.result.before + left) hs counts parts.slices.now parts.occur.count_is parts.are less
     (omega (arith, c.slice_from-slice.ensures.count, c.if-left-slice.false)) (ap (λ (n : ℕ). n + left) (sym here))
     (ap (λ (n : ℕ). 256 * (c.args.number / 256) + n) low ∙ ap (λ (n : ℕ). 256 * n + get_or (slice_at i counts parts.slices.now) left 0) (sym high))
@@ -214,8 +198,8 @@ returns-then-left-slice-clause-within c =
     let i : ℕ = c.rank_in_slice-index.result in
     let counts : List ℕ = c.args.self.counts.now in
     let less = below_counts i (c.args.number / 256) (highs_of c.args.self) counts c.rank_in_slice-index.ensures (sym c.in_slice.ensures ∙ c.if-not-in_slice.false) c.args.self.occur.count_is in
-    let few = own_few c.rank_in_slice-left.result (c.args.number % 256) c.slice_from-slice.result _ c.bytes.ensures c.rank_in_slice-left.ensures in
-    among counts i c.place_of-here.result.before c.rank_in_slice-left.result c.slice_from-slice.result.count less
+    let few = own_few c.rank-left.result (c.args.number % 256) c.slice_from-slice.result c.rank-left.ensures in
+    among counts i c.place_of-here.result.before c.rank-left.result c.slice_from-slice.result.count less
     (before_is counts i c.place_of-here.result c.place_of-here.ensures.place c.place_of-here.ensures.index) few.0 c.slice_from-slice.ensures.count
 
 pub returns-clause-within : goal.returns-clause-within
@@ -223,6 +207,6 @@ returns-clause-within c =
     let i : ℕ = c.rank_in_slice-index.result in
     let counts : List ℕ = c.args.self.counts.now in
     let less = below_counts i (c.args.number / 256) (highs_of c.args.self) counts c.rank_in_slice-index.ensures (sym c.in_slice.ensures ∙ c.if-not-in_slice.false) c.args.self.occur.count_is in
-    let few = own_few c.rank_in_slice-left.result (c.args.number % 256) c.slice_from-slice.result _ c.bytes.ensures c.rank_in_slice-left.ensures in
-    among counts i c.place_of-here.result.before c.rank_in_slice-left.result c.slice_from-slice.result.count less
+    let few = own_few c.rank-left.result (c.args.number % 256) c.slice_from-slice.result c.rank-left.ensures in
+    among counts i c.place_of-here.result.before c.rank-left.result c.slice_from-slice.result.count less
     (before_is counts i c.place_of-here.result c.place_of-here.ensures.place c.place_of-here.ensures.index) few.0 c.slice_from-slice.ensures.count

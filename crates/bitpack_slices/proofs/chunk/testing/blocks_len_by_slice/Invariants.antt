@@ -2,7 +2,7 @@
 use Rattle.std.proofs.Common.{◌+◌, ◌*◌, ◌/◌, ◌<◌, ◌≤◌, drop, length}
 use Rattle.bitpack_slices.specs.Slices.{pairs_of}
 use Rattle.bitpack_slices.proofs.lemmas.numbers.FallLaws.{IsRun}
-use Rattle.bitpack_slices.proofs.chunk.testing.blocks_len.Given as goal
+use Rattle.bitpack_slices.proofs.chunk.testing.blocks_len_by_slice.Given as goal
 
 abbrev pub invariant-loop-left : goal.invariant-loop-left
 invariant-loop-left l = record {
