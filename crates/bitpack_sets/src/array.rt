@@ -27,7 +27,7 @@ pub(crate) fn unpack_array(rest: &[u8], out: &mut [u32])
 }
 
 /// How many ids of an array are below `id`, by halves.
-pub(crate) fn rank_in_array(rest: &[u8], id: u32) -> usize
+pub fn rank_in_array(rest: &[u8], id: u32) -> usize
     requires { IsRising 0 (2 ^ 32) (quads_of rest.now) }
     ensures { result ≡ rank id (quads_of rest.now) }
 {

@@ -1,6 +1,6 @@
 //! A position among the ids of a set.
 
-ghost use Rattle.std.specs.Prelude.{◌≡◌, ◌+◌, ◌-◌, ◌<◌, ◌≤◌, drop, length, max, min, slice_get, slice_index, take};
+ghost use Rattle.std.specs.Prelude.{◌≡◌, ℕ, ◌+◌, ◌-◌, ◌<◌, ◌≤◌, drop, length, max, min, slice_get, slice_index, take};
 ghost use Rattle.std.proofs.Props.{props};
 ghost use Rattle.bitpack_sets.specs.Opened.{encoding_of, ids};
 ghost use Rattle.bitpack_sets.specs.Places.{Holds};
@@ -106,31 +106,59 @@ impl<'a> Cursor<'a> {
         ensures position { self.new.position ≡ max self.old.position (rank target (ids self.old.set)) }
         ensures id { result ≡ slice_get (ids self.old.set) self.new.position }
     {
-        if self.position >= self.set.len() {
-            return None;
-        }
-        let (at, position, id) = self.find(target);
-        if position < self.position {
-            return self.set.select(self.position);
-        }
+        let (at, position, id) = self.set.seek_from(self.at, self.position, target);
         self.at = at;
         self.position = position;
         id
     }
+}
 
-    /// How many ids are below `target`, or at most as many as are before the position, and the id there, if there is one. Also returns a slice that is
-    /// not after it, or not after the position.
+impl<'a> IdSet<'a> {
+    ghost use Rattle.bitpack_sets.specs.Places.{IsChunkPlace, first_of};
+
+    /// The position of the first id from a position on that is at least `target`, and the id, if there is one. Takes a slice that is not after the
+    /// position, and returns one that is not after the id.
+    // A copy of the set or a cursor in memory takes longer than the search.
     #[inline(always)]
-    fn find(&self, target: u32) -> (ChunkPlace, usize, Option<u32>)
-        ensures holds { slice_index (encoding_of self.now.set) 0 ≡ 5 → Holds self.now.set.chunks self.now.set.rest.now result.0 (max self.now.position result.1) }
-        ensures least { rank target (ids self.now.set) ≤ result.1 }
-        ensures most { result.1 ≤ max self.now.position (rank target (ids self.now.set)) }
-        ensures first { result.2 ≡ slice_get (ids self.now.set) result.1 }
+    pub(crate) fn seek_from(
+        &self,
+        at: ChunkPlace,
+        from: usize,
+        target: u32,
+    ) -> (ChunkPlace, usize, Option<u32>)
+        requires within { from ≤ length (ids self.now) }
+        requires holds { slice_index (encoding_of self.now) 0 ≡ 5 → Holds self.now.chunks self.now.rest.now at from }
+        ensures holds { slice_index (encoding_of self.now) 0 ≡ 5 → Holds self.now.chunks self.now.rest.now result.0 result.1 }
+        ensures within { result.1 ≤ length (ids self.now) }
+        ensures position { result.1 ≡ max from (rank target (ids self.now)) }
+        ensures id { result.2 ≡ slice_get (ids self.now) result.1 }
     {
-        if let Form::Chunks(directory) = self.set.form() {
-            return directory.seek_at(self.at, target);
+        if from >= self.len() {
+            return (at, from, None);
         }
-        let (position, id) = self.set.place_of(target);
-        (self.at, position, id)
+        let (place, position, id) = self.find(at, target);
+        if position < from {
+            return (at, from, self.select(from));
+        }
+        (place, position, id)
+    }
+
+    /// How many ids are below `target`, or at most as many as are before a slice, and the id there, if there is one. Also returns a slice that is not
+    /// after it, or this one.
+    #[inline(always)]
+    fn find(&self, at: ChunkPlace, target: u32) -> (ChunkPlace, usize, Option<u32>)
+        requires { slice_index (encoding_of self.now) 0 ≡ 5 → IsChunkPlace self.now.chunks self.now.rest.now at }
+        ensures holds { (from : ℕ) → slice_index (encoding_of self.now) 0 ≡ 5 → first_of self.now.chunks self.now.rest.now at ≤ from
+            → Holds self.now.chunks self.now.rest.now result.0 (max from result.1) }
+        ensures least { rank target (ids self.now) ≤ result.1 }
+        ensures most { (from : ℕ) → (slice_index (encoding_of self.now) 0 ≡ 5 → first_of self.now.chunks self.now.rest.now at ≤ from)
+            → result.1 ≤ max from (rank target (ids self.now)) }
+        ensures first { result.2 ≡ slice_get (ids self.now) result.1 }
+    {
+        if let Form::Chunks(directory) = self.form() {
+            return directory.seek_at(at, target);
+        }
+        let (position, id) = self.place_of(target);
+        (at, position, id)
     }
 }

@@ -13,6 +13,7 @@ mod few;
 pub mod gathered;
 mod measuring;
 pub mod order;
+pub mod placed;
 pub mod range;
 mod runs;
 
@@ -25,10 +26,10 @@ use bitpack_slices::SetError;
 /// What is known of an encoded set before it is written: how many bytes it has, and from 128 ids on how many chunks, and how many bytes
 /// their bodies have.
 #[derive(Clone, Copy)]
-struct Measured {
-    len: usize,
-    chunks: usize,
-    bodies: usize,
+pub struct Measured {
+    pub len: usize,
+    pub chunks: usize,
+    pub bodies: usize,
 }
 
 /// Returns the length in bytes of the set of these ids. They have to increase, and are at most 268,435,456.
@@ -85,7 +86,7 @@ pub fn append_set(ids: &[u32], out: &mut Vec<u8>) -> Result<(), SetError>
 }
 
 /// Appends `count` zeros to a vector that has the room.
-pub(crate) fn append_zeros(out: &mut Vec<u8>, count: usize)
+pub fn append_zeros(out: &mut Vec<u8>, count: usize)
     requires room { vec_len out.old + count ≤ vec_capacity out.old }
     ensures items { out.new.items ≡ out.old.items ++ replicate count 0 }
     ensures len { vec_len out.new ≡ vec_len out.old + count }
@@ -95,7 +96,7 @@ pub(crate) fn append_zeros(out: &mut Vec<u8>, count: usize)
 }
 
 /// Measures the encoding of a set.
-fn measure(ids: &[u32]) -> Measured
+pub fn measure(ids: &[u32]) -> Measured
     requires { IsSet ids.now }
     ensures { IsMeasured ids.now result.len result.chunks result.bodies }
 {
@@ -127,7 +128,7 @@ fn measure(ids: &[u32]) -> Measured
 }
 
 /// Writes the encoding of a set that was measured.
-fn write_set(ids: &[u32], measured: Measured, out: &mut [u8])
+pub fn write_set(ids: &[u32], measured: Measured, out: &mut [u8])
     requires set { IsSet ids.now }
     requires measured { IsMeasured ids.now measured.len measured.chunks measured.bodies }
     requires size { length out.old ≡ length (encoding ids.now) }

@@ -24,6 +24,7 @@ use crate::varints::open_number;
 pub fn front_len(bytes: &[u8]) -> Option<usize>
     // claim: sets/31 measures the set at the front
     ensures front { (n : ℕ) → n ≤ length bytes.now → fault (take n bytes.now) ≡ None → result ≡ Some n }
+    ensures some { IfSome result (λ n. 1 ≤ n) }
     ensures within { IfSome result (λ n. n ≤ length bytes.now) }
 {
     let [form, later @ ..] = bytes else {
@@ -41,6 +42,7 @@ pub fn front_len(bytes: &[u8]) -> Option<usize>
 fn few_front(count: usize, bytes: &[u8]) -> Option<usize>
     requires few { count ≤ MOST_FEW }
     ensures front { (n : ℕ) → n ≤ length bytes.now → short_fault count (take n bytes.now) ≡ None → result ≡ Some (n + 1) }
+    ensures some { IfSome result (λ n. 1 ≤ n) }
     ensures within { IfSome result (λ n. n ≤ length bytes.now + 1) }
 {
     if count == 0 {
@@ -53,6 +55,7 @@ fn few_front(count: usize, bytes: &[u8]) -> Option<usize>
 fn some_front(more: usize, bytes: &[u8]) -> Option<usize>
     requires few { more < MOST_FEW }
     ensures front { (n : ℕ) → n ≤ length bytes.now → some_fault more (take n bytes.now) ≡ None → result ≡ Some (n + 1) }
+    ensures some { IfSome result (λ n. 1 ≤ n) }
     ensures within { IfSome result (λ n. n ≤ length bytes.now + 1) }
 {
     let Ok((_, end)) = open_number(bytes) else {
@@ -69,6 +72,7 @@ fn some_front(more: usize, bytes: &[u8]) -> Option<usize>
 /// How many bytes the array has whose byte 0 is before these bytes.
 fn array_front(bytes: &[u8]) -> Option<usize>
     ensures front { (n : ℕ) → n ≤ length bytes.now → array_fault (take n bytes.now) ≡ None → result ≡ Some (n + 1) }
+    ensures some { IfSome result (λ n. 1 ≤ n) }
     ensures within { IfSome result (λ n. n ≤ length bytes.now + 1) }
 {
     let Ok((count, end)) = open_count(bytes) else {
@@ -84,6 +88,7 @@ fn array_front(bytes: &[u8]) -> Option<usize>
 /// How many bytes the set in chunks has whose byte 0 is before these bytes.
 fn chunks_front(bytes: &[u8]) -> Option<usize>
     ensures front { (n : ℕ) → n ≤ length bytes.now → in_chunks_fault (take n bytes.now) ≡ None → result ≡ Some (n + 1) }
+    ensures some { IfSome result (λ n. 1 ≤ n) }
     ensures within { IfSome result (λ n. n ≤ length bytes.now + 1) }
 {
     let Ok((count, end)) = open_count(bytes) else {

@@ -2,7 +2,6 @@
 #![tactic(auto)]
 
 mod appending;
-mod array;
 mod as_set;
 mod counting;
 mod cursor;
@@ -22,6 +21,7 @@ mod varints;
 mod worked_sets;
 
 // For the crates above, and not for users.
+pub mod array;
 pub mod chunked;
 pub mod chunks;
 pub mod encoding;

@@ -183,9 +183,7 @@ impl Window {
         ensures next { self.new.next ≡ max self.old.next (rank target (ids set.now)) }
         ensures id { result ≡ slice_get (ids set.now) self.new.next }
     {
-        let mut cursor = self.after(set);
-        let found = cursor.seek(target);
-        let position = cursor.position();
+        let (at, position, found) = set.seek_from(self.at, self.end, target);
         if position - self.end > NEAR
             && let Some(id) = found
         {
@@ -194,10 +192,10 @@ impl Window {
             self.begin = position;
             self.end = position + 1;
             self.most = FEW_UNPACKED;
-            self.at = cursor.at;
+            self.at = at;
             return found;
         }
-        self.unpack_from(&mut cursor);
+        self.unpack_from(&mut Cursor::from_place(*set, position, at));
         found
     }
 

@@ -3,6 +3,7 @@ pub mod BodyFilled
 pub mod CombinedLaws
 pub mod CopyLaws
 pub mod CountedRuns
+pub mod DirectoryFilled
 pub mod EndsFilled
 pub mod EntriesFilled
 pub mod FallLaws

@@ -68,7 +68,7 @@ pub(crate) fn write_chunks(ids: &[u32], chunks: usize, size: usize, out: &mut [u
 }
 
 /// How many bytes are before the directory of a set of `count` ids in chunks.
-pub(crate) fn head_len(count: usize, chunks: usize) -> usize
+pub fn head_len(count: usize, chunks: usize) -> usize
     requires few { (count ≤ 2 ^ 28) × (chunks ≤ 2 ^ 28) }
     ensures len { result ≡ 2 + length (number count) + length (number chunks) }
     ensures few { result ≤ 12 }
@@ -77,13 +77,7 @@ pub(crate) fn head_len(count: usize, chunks: usize) -> usize
 }
 
 /// Writes what is before the directory of a set of `count` ids in chunks, with ends and sums of these sizes.
-pub(crate) fn write_head(
-    count: usize,
-    chunks: usize,
-    end_size: usize,
-    sum_size: usize,
-    out: &mut [u8],
-)
+pub fn write_head(count: usize, chunks: usize, end_size: usize, sum_size: usize, out: &mut [u8])
     requires few { (count ≤ 2 ^ 28) × (chunks ≤ 2 ^ 28) }
     requires sizes { (end_size ≤ 4) × (sum_size ≤ 4) }
     requires size { length out.old ≡ 2 + length (number count) + length (number chunks) }

@@ -1,5 +1,5 @@
 -- The groups at the front are read, and end where they end.
-use Rattle.std.proofs.Common.{rules, ◌≡◌, ◌+◌, ◌-◌, ℕ, List, None, Some, arith, ap, drop, length, sym, take, ◌∙◌}
+use Rattle.std.proofs.Common.{rules, ◌≡◌, ◌+◌, ◌-◌, ◌≤◌, ℕ, List, None, Some, arith, ap, drop, length, sym, take, ◌∙◌}
 use Rattle.std.proofs.lemmas.List.{length-drop, take_rest}
 use Rattle.bitpacking.proofs.ForCallers.{AreBytes-from_slice}
 use Rattle.bitpack_sets.proofs.lemmas.encodings.EncodingLaws.{some_not_none}
@@ -33,14 +33,17 @@ returns-in_default-test_groups-clause-front c n le none =
     let rest = after bytes c.in-Ok.end c.in-Ok.ensures.end in
     absurd (refused _ more _ _ c.in_default-test_groups.ensures.fault (search rules) (ap (groups_fault (groups_of more) 0 more) rest ∙ head.groups))
 
+-- the bytes after the groups are among all
+rest_within : (size more end : ℕ) (bytes rest : List ℕ) → rest ≡ after_groups (groups_of size) size (take (length bytes - end) (drop end bytes)) → size ≡ more → length rest ≤ length bytes
+rest_within size more end bytes rest is same =
+    let later : List ℕ = take (length bytes - end) (drop end bytes) in
+    omega (arith, after_within (groups_of more) more later, left size more later rest is same, ap length (take_rest bytes end), length-drop end bytes)
+
 pub overflow_sub-result : goal.overflow_sub-result
-overflow_sub-result c =
-    let bytes : List ℕ = c.args.bytes.now in
-    let more : ℕ = c.args.more in
-    let rest : List ℕ = take (length bytes - c.in-Ok.end) (drop c.in-Ok.end bytes) in
-    let long = after_within (groups_of more) more rest in
-    let is = left _ more rest c.in-Ok-test_groups.rest.now c.in-Ok-test_groups.ensures.rest (search rules) in
-    omega (arith, long, is, ap length (take_rest bytes c.in-Ok.end), length-drop c.in-Ok.end bytes)
+overflow_sub-result c = omega (arith, rest_within _ c.args.more c.in-Ok.end c.args.bytes.now _ c.in-Ok-test_groups.ensures.rest (search rules))
+
+pub returns-clause-some : goal.returns-clause-some
+returns-clause-some c = omega (arith, rest_within _ c.args.more c.in-Ok.end c.args.bytes.now _ c.in-Ok-test_groups.ensures.rest (search rules))
 
 pub returns-clause-front : goal.returns-clause-front
 returns-clause-front c n le none =

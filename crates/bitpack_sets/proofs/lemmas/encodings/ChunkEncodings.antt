@@ -9,7 +9,7 @@ use Rattle.bitpack_sets.proofs.lemmas.encodings.BodyLaws.{body_blocks, body_numb
 use Rattle.bitpack_sets.proofs.lemmas.encodings.ByteLaws.{each_body}
 use Rattle.bitpack_sets.proofs.lemmas.faults.EntryLaws.{none_entry, none_first, none_loose, none_sizes}
 use Rattle.bitpack_sets.proofs.lemmas.faults.FaultLaws.{none_or, some_not}
-use Rattle.bitpack_slices.proofs.ForCallers.{AreParts, EachByte, counts, flat_len, keys, rising_room, runs_len, total}
+use Rattle.bitpack_slices.proofs.ForCallers.{AreParts, EachByte, counts, flat_len, keys, none, rising_room, runs_len, total}
 use Rattle.bitpack_sets.proofs.lemmas.encodings.LongLaws.{after_counts, bodies, body_len, concat_len, counts_len, ends, ends_below, ends_len, keys_below, small, some_each, sums_below}
 use Rattle.bitpack_sets.proofs.lemmas.encodings.LongLaws as encodings
 use Rattle.bitpack_sets.proofs.lemmas.encodings.ShortLaws.{short_written}
@@ -25,10 +25,7 @@ use Rattle.bitpack_slices.specs.declared.set_error.SetError.TheVariants.{Short, 
 
 -- ---- lists
 
-none : ℕ × List ℕ
-none = (0, [])
-
-get_map : (f : ℕ × List ℕ → ℕ) (ps : List (ℕ × List ℕ)) (m : ℕ) → m < length ps → get_or (map f ps) m 0 ≡ f (get_or ps m none)
+pub get_map : (f : ℕ × List ℕ → ℕ) (ps : List (ℕ × List ℕ)) (m : ℕ) → m < length ps → get_or (map f ps) m 0 ≡ f (get_or ps m none)
 get_map f [] m h = absurd (omega arith)
 get_map f (p ∷ ps) zero h = refl
 get_map f (p ∷ ps) (suc m) h = get_map f ps m (omega arith)
@@ -38,29 +35,29 @@ get_body [] m h = absurd (omega arith)
 get_body (p ∷ ps) zero h = refl
 get_body (p ∷ ps) (suc m) h = get_body ps m (omega arith)
 
-get_size : (ls : List (List ℕ)) (m : ℕ) → m < length ls → get_or (map length ls) m 0 ≡ length (get_or ls m [])
+pub get_size : (ls : List (List ℕ)) (m : ℕ) → m < length ls → get_or (map length ls) m 0 ≡ length (get_or ls m [])
 get_size [] m h = absurd (omega arith)
 get_size (l ∷ ls) zero h = refl
 get_size (l ∷ ls) (suc m) h = get_size ls m (omega arith)
 
-total_more : (xs : List ℕ) (m : ℕ) → m < length xs → total (take (suc m) xs) ≡ total (take m xs) + get_or xs m 0
+pub total_more : (xs : List ℕ) (m : ℕ) → m < length xs → total (take (suc m) xs) ≡ total (take m xs) + get_or xs m 0
 total_more [] m h = absurd (omega arith)
 total_more (x ∷ xs) zero h = omega arith
 total_more (x ∷ xs) (suc m) h = let ih = total_more xs m (omega arith) in omega arith
 
-total_all : (xs : List ℕ) (m : ℕ) → length xs ≤ m → total (take m xs) ≡ total xs
+pub total_all : (xs : List ℕ) (m : ℕ) → length xs ≤ m → total (take m xs) ≡ total xs
 total_all [] zero h = refl
 total_all [] (suc m) h = refl
 total_all (x ∷ xs) zero h = absurd (omega arith)
 total_all (x ∷ xs) (suc m) h = let ih = total_all xs m (omega arith) in omega arith
 
-sum_get : (b : ℕ) (xs : List ℕ) (m : ℕ) → m < length xs → get_or (sums b xs) m 0 ≡ b + total (take (suc m) xs)
+pub sum_get : (b : ℕ) (xs : List ℕ) (m : ℕ) → m < length xs → get_or (sums b xs) m 0 ≡ b + total (take (suc m) xs)
 unfolding sums
 sum_get b [] m h = absurd (omega arith)
 sum_get b (x ∷ xs) zero h = omega arith
 sum_get b (x ∷ xs) (suc m) h = let ih = sum_get (b + x) xs m (omega arith) in omega arith
 
-concat_part : (ls : List (List ℕ)) (m : ℕ) → m < length ls → take (length (get_or ls m [])) (drop (total (take m (map length ls))) (concat ls)) ≡ get_or ls m []
+pub concat_part : (ls : List (List ℕ)) (m : ℕ) → m < length ls → take (length (get_or ls m [])) (drop (total (take m (map length ls))) (concat ls)) ≡ get_or ls m []
 concat_part [] m h = absurd (omega arith)
 concat_part (l ∷ ls) zero h = take_at l (concat ls) (length l) refl
 concat_part (l ∷ ls) (suc m) h =

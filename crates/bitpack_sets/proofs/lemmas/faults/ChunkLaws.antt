@@ -17,7 +17,7 @@ use Rattle.bitpack_sets.specs.Sound.{IsRest}
 use Rattle.bitpack_sets.specs.Varints.{byte_count, number, short_at}
 
 -- a part of bytes and what is after it
-bytes_cut : (n from to : ℕ) (bytes : List ℕ) → to ≡ from + n → take n (drop from bytes) ++ drop to bytes ≡ drop from bytes
+pub bytes_cut : (n from to : ℕ) (bytes : List ℕ) → to ≡ from + n → take n (drop from bytes) ++ drop to bytes ≡ drop from bytes
 bytes_cut n from to bytes e =
     ap (λ (m : ℕ). take n (drop from bytes) ++ drop m bytes) e ∙ ap (λ (l : List ℕ). take n (drop from bytes) ++ l) (sym (drop-drop n from bytes))
     ∙ take-append-drop n (drop from bytes)

@@ -15,7 +15,7 @@ use Rattle.bitpack_sets.specs.Varints.{byte_count}
 use Rattle.bitpack_slices.specs.declared.set_error.SetError.{SetError}
 use Rattle.bitpack_groups.proofs.ForCallers.{passed}
 
-second_not : (a b : Bool) → (a && b) ≡ false → a ≡ true → b ≡ false
+pub second_not : (a b : Bool) → (a && b) ≡ false → a ≡ true → b ≡ false
 second_not true b e f = e
 second_not false b e f = absurd (true≢false (sym f))
 
@@ -87,14 +87,14 @@ entry_none ids chunks rest m e =
       short = not_below (2 * count_at chunks rest m) (size_at chunks rest m) long;
     }
 
-all_false : (a b : Bool) → a ≡ false → b ≡ false → (a || b) ≡ false
+pub all_false : (a b : Bool) → a ≡ false → b ≡ false → (a || b) ≡ false
 all_false a b e f = ap (λ (x : Bool). x || b) e ∙ f
 
-not_and : (a b : Bool) → (a ≡ true → b ≡ false) → (a && b) ≡ false
+pub not_and : (a b : Bool) → (a ≡ true → b ≡ false) → (a && b) ≡ false
 not_and true b h = h refl
 not_and false b h = refl
 
-not_eq : (x : ℕ) → 0 < x → eqb x 0 ≡ false
+pub not_eq : (x : ℕ) → 0 < x → eqb x 0 ≡ false
 not_eq x h = ne_eqb x 0 (λ e. absurd (omega arith))
 
 pub none_entry : (ids chunks : ℕ) (rest : List ℕ) (m : ℕ) → IsEntry ids chunks rest m → entry_fault ids chunks rest m ≡ None

@@ -2,20 +2,19 @@
 use Rattle.std.proofs.Common.{◌≡◌, ℕ, ◌≤◌, Bool, true, false, ltb, Option, Some, None, refl, sym, ap, ◌∙◌, cond, inl, inr}
 use Rattle.std.specs.Option.{is_some, option_map, option_or}
 use Rattle.std.proofs.lemmas.Bool.{cases_lt, lt-ltb, true≢false}
-use Rattle.bitpack_slices.specs.declared.set_error.SetError.{SetError}
 
-pub or_none : (a b : Option SetError) → option_or a b ≡ None → (a ≡ None) × (b ≡ None)
+pub or_none : {E : Type 0} (a b : Option E) → option_or a b ≡ None → (a ≡ None) × (b ≡ None)
 or_none None b h = (refl, h)
 or_none (Some e) b h = absurd (true≢false (ap is_some h))
 
-pub none_or : (a b : Option SetError) → a ≡ None → b ≡ None → option_or a b ≡ None
-none_or a b e f = ap (λ (o : Option SetError). option_or o b) e ∙ f
+pub none_or : {E : Type 0} (a b : Option E) → a ≡ None → b ≡ None → option_or a b ≡ None
+none_or a b e f = ap (λ (o : Option _). option_or o b) e ∙ f
 
-pub map_none : {T : Type 0} (f : T → SetError) (a : Option T) → option_map f a ≡ None → a ≡ None
+pub map_none : {T E : Type 0} (f : T → E) (a : Option T) → option_map f a ≡ None → a ≡ None
 map_none f None h = refl
 map_none f (Some e) h = absurd (true≢false (ap is_some h))
 
-pub none_map : {T : Type 0} (f : T → SetError) (a : Option T) → a ≡ None → option_map f a ≡ None
+pub none_map : {T E : Type 0} (f : T → E) (a : Option T) → a ≡ None → option_map f a ≡ None
 none_map f a h = ap (option_map f) h
 
 pub if_none : {T : Type 0} (b : Bool) (e : T) → cond b None (Some e) ≡ None → b ≡ true

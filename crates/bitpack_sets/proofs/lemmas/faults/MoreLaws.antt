@@ -38,11 +38,11 @@ fall_after position low high x (z ∷ xs) y ys (a, (b, r)) =
     ∙ fall_after (position + 1) (x + 1) high z xs y ys (b, r)
     ∙ ap (λ (n : ℕ). cond (leb y (get_or (z ∷ xs) (length xs) 0)) (Some n) (first_fall n (y ∷ ys))) e
 
-all_after : (count x : ℕ) (xs : List ℕ) (y : ℕ) (ys : List ℕ) → IsRising 0 (2 ^ 32) (x ∷ xs) → suc (length xs) ≡ count
+all_after : (top count x : ℕ) (xs : List ℕ) (y : ℕ) (ys : List ℕ) → IsRising 0 top (x ∷ xs) → suc (length xs) ≡ count
     → first_fall 0 ((x ∷ xs) ++ (y ∷ ys)) ≡ cond (leb y (get_or (x ∷ xs) (length xs) 0)) (Some count) (first_fall count (y ∷ ys))
-all_after count x xs y ys r e =
+all_after top count x xs y ys r e =
     let f : 0 + length (x ∷ xs) ≡ count = omega arith in
-    fall_after 0 0 (2 ^ 32) x xs y ys r ∙ ap (λ (n : ℕ). cond (leb y (get_or (x ∷ xs) (length xs) 0)) (Some n) (first_fall n (y ∷ ys))) f
+    fall_after 0 0 top x xs y ys r ∙ ap (λ (n : ℕ). cond (leb y (get_or (x ∷ xs) (length xs) 0)) (Some n) (first_fall n (y ∷ ys))) f
 
 -- ---- ids that follow those of a set
 
@@ -64,38 +64,39 @@ module _ (ids more : List ℕ) (count last : ℕ) (ends : EndsWith ids count las
       empty (x ∷ xs) e = absurd (omega arith)
 
 -- the first does not follow
-first_falls : (ids : List ℕ) (y : ℕ) (ys : List ℕ) (count last : ℕ) → EndsWith ids count last → IsSet ids → 0 < count → y ≤ last → first_fall 0 (ids ++ (y ∷ ys)) ≡ Some count
-first_falls [] y ys count last ends set some low = let e = ends.count_is in absurd (omega arith)
-first_falls (x ∷ xs) y ys count last ends set some low =
+pub first_falls : (top : ℕ) (ids : List ℕ) (y : ℕ) (ys : List ℕ) (count last : ℕ) → EndsWith ids count last → IsRising 0 top ids → 0 < count → y ≤ last
+    → first_fall 0 (ids ++ (y ∷ ys)) ≡ Some count
+first_falls top [] y ys count last ends rising some low = let e = ends.count_is in absurd (omega arith)
+first_falls top (x ∷ xs) y ys count last ends rising some low =
     let e : suc (length xs) ≡ count = ends.count_is in
     let f : length xs ≡ count - 1 = omega arith in
     let is : get_or (x ∷ xs) (length xs) 0 ≡ last = ap (λ (n : ℕ). get_or (x ∷ xs) n 0) f ∙ ends.last_is some in
-    all_after count x xs y ys set.rising e
+    all_after top count x xs y ys rising e
     ∙ ap (λ (t : Bool). cond t (Some count) (first_fall count (y ∷ ys))) (le-leb y (get_or (x ∷ xs) (length xs) 0) (omega arith))
 
 -- it does
-first_follows : (ids : List ℕ) (y : ℕ) (ys : List ℕ) (count last : ℕ) → EndsWith ids count last → IsSet ids → (0 < count → last < y)
+pub first_follows : (top : ℕ) (ids : List ℕ) (y : ℕ) (ys : List ℕ) (count last : ℕ) → EndsWith ids count last → IsRising 0 top ids → (0 < count → last < y)
     → first_fall 0 (ids ++ (y ∷ ys)) ≡ option_map (λ k. count + k) (first_fall 0 (y ∷ ys))
-first_follows [] y ys count last ends set above = fall_shift 0 0 (y ∷ ys) ∙ ap (λ (n : ℕ). option_map (λ k. n + k) (first_fall 0 (y ∷ ys))) ends.count_is
-first_follows (x ∷ xs) y ys count last ends set above =
+first_follows top [] y ys count last ends rising above = fall_shift 0 0 (y ∷ ys) ∙ ap (λ (n : ℕ). option_map (λ k. n + k) (first_fall 0 (y ∷ ys))) ends.count_is
+first_follows top (x ∷ xs) y ys count last ends rising above =
     let e : suc (length xs) ≡ count = ends.count_is in
     let f : length xs ≡ count - 1 = omega arith in
     let g : count ≡ count + 0 = omega arith in
     let over : last < y = above (omega arith) in
     let is : get_or (x ∷ xs) (length xs) 0 ≡ last = ap (λ (n : ℕ). get_or (x ∷ xs) n 0) f ∙ ends.last_is (omega arith) in
-    all_after count x xs y ys set.rising e
+    all_after top count x xs y ys rising e
     ∙ ap (λ (t : Bool). cond t (Some count) (first_fall count (y ∷ ys))) (lt-leb y (get_or (x ∷ xs) (length xs) 0) (omega arith))
     ∙ ap (λ (n : ℕ). first_fall n (y ∷ ys)) g ∙ fall_shift count 0 (y ∷ ys)
 
 pub first_refused : (ids more : List ℕ) (count last : ℕ) → EndsWith ids count last → IsSet ids → count + length more ≤ 2 ^ 28 → 0 < count → 0 < length more → get_or more 0 0 ≤ last
     → refusal (ids ++ more) ≡ Some (NotSorted count)
 first_refused ids [] count last ends set few some any low = absurd (omega arith)
-first_refused ids (y ∷ ys) count last ends set few some any low = short_refused ids (y ∷ ys) count last ends few ∙ ap (option_map NotSorted) (first_falls ids y ys count last ends set some low)
+first_refused ids (y ∷ ys) count last ends set few some any low = short_refused ids (y ∷ ys) count last ends few ∙ ap (option_map NotSorted) (first_falls (2 ^ 32) ids y ys count last ends set.rising some low)
 
 pub later_refused : (ids more : List ℕ) (count last : ℕ) → EndsWith ids count last → IsSet ids → count + length more ≤ 2 ^ 28 → 0 < length more → (0 < count → last < get_or more 0 0)
     → refusal (ids ++ more) ≡ option_map NotSorted (option_map (λ k. count + k) (first_fall 0 more))
 later_refused ids [] count last ends set few any above = absurd (omega arith)
-later_refused ids (y ∷ ys) count last ends set few any above = short_refused ids (y ∷ ys) count last ends few ∙ ap (option_map NotSorted) (first_follows ids y ys count last ends set above)
+later_refused ids (y ∷ ys) count last ends set few any above = short_refused ids (y ∷ ys) count last ends few ∙ ap (option_map NotSorted) (first_follows (2 ^ 32) ids y ys count last ends set.rising above)
 
 -- ids that follow are a set with those before
 words_below : (xs : List ℕ) (low high k : ℕ) → IsRising low high xs → 0 < high → get_or xs k 0 < high
@@ -107,10 +108,10 @@ words_below (x ∷ xs) low high zero (a, r) some = let b = top (x + 1) high xs r
     top low high (x ∷ xs) (a, r) = let ih = top (x + 1) high xs r in omega arith
 words_below (x ∷ xs) low high (suc k) (a, r) some = words_below xs (x + 1) high k r some
 
-both_below : (ids more : List ℕ) (low : ℕ) → IsRising low (2 ^ 32) ids → ((k : ℕ) → get_or more k 0 < 2 ^ 32) → (k : ℕ) → get_or (ids ++ more) k 0 < 2 ^ 32
-both_below [] more low r below k = below k
-both_below (x ∷ xs) more low r below zero = words_below (x ∷ xs) low (2 ^ 32) 0 r (lit< tt)
-both_below (x ∷ xs) more low (a, r) below (suc k) = both_below xs more (x + 1) r below k
+pub both_below : (top : ℕ) (ids more : List ℕ) (low : ℕ) → 0 < top → IsRising low top ids → ((k : ℕ) → get_or more k 0 < top) → (k : ℕ) → get_or (ids ++ more) k 0 < top
+both_below top [] more low some r below k = below k
+both_below top (x ∷ xs) more low some r below zero = words_below (x ∷ xs) low top 0 r some
+both_below top (x ∷ xs) more low some (a, r) below (suc k) = both_below top xs more (x + 1) some r below k
 
 pub more_is : (ids more : List ℕ) → IsSet ids → ((k : ℕ) → get_or more k 0 < 2 ^ 32) → refusal (ids ++ more) ≡ None → IsSet (ids ++ more)
-more_is ids more set below none = set_is (ids ++ more) (both_below ids more 0 set.rising below) none
+more_is ids more set below none = set_is (ids ++ more) (both_below (2 ^ 32) ids more 0 (lit< tt) set.rising below) none

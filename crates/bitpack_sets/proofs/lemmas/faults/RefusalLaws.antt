@@ -49,9 +49,9 @@ too_long ids h = sym (cond_below (2 ^ 28) (length ids) (Some (TooLong (length id
 pub short_enough : (ids : List ℕ) → length ids ≤ 2 ^ 28 → refusal ids ≡ option_map NotSorted (first_fall 0 ids)
 short_enough ids h = sym (cond_above (2 ^ 28) (length ids) (Some (TooLong (length ids))) (option_map NotSorted (first_fall 0 ids)) (option_map NotSorted (first_fall 0 ids)) h refl)
 
-pub each_below : (ids : List ℕ) → ((k : ℕ) → get_or ids k 0 < 2 ^ 32) → Below (2 ^ 32) ids
-each_below [] h = tt
-each_below (x ∷ ids) h = (h 0, each_below ids (λ k. h (suc k)))
+pub each_below : (top : ℕ) (ids : List ℕ) → ((k : ℕ) → get_or ids k 0 < top) → Below top ids
+each_below top [] h = tt
+each_below top (x ∷ ids) h = (h 0, each_below top ids (λ k. h (suc k)))
 
 some_refused : (fall : Option ℕ) → option_map NotSorted fall ≡ None → fall ≡ None
 some_refused None e = refl
@@ -61,7 +61,7 @@ some_refused (Some position) e = cc
 pub set_is : (ids : List ℕ) → ((k : ℕ) → get_or ids k 0 < 2 ^ 32) → refusal ids ≡ None → IsSet ids
 set_is ids words none = elim (cases_lt (2 ^ 28) (length ids)) [
   | inl long ↦ (let e : Some (TooLong (length ids)) ≡ None = sym (too_long ids long) ∙ none in cc)
-  | inr few ↦ record { few = few; rising = rises_from 0 (2 ^ 32) ids (each_below ids words) (some_refused (first_fall 0 ids) (sym (short_enough ids few) ∙ none)) }
+  | inr few ↦ record { few = few; rising = rises_from 0 (2 ^ 32) ids (each_below (2 ^ 32) ids words) (some_refused (first_fall 0 ids) (sym (short_enough ids few) ∙ none)) }
 ]
 
 -- a set is not refused

@@ -32,16 +32,16 @@ pub record RunEnds (base : ℕ) (xs : List ℕ) (low high : ℕ) : Type 0 where
   pub shared : get_or xs low 0 / base ≡ get_or xs 0 0 / base
   pub apart : high < length xs → get_or xs high 0 / base ≢ get_or xs 0 0 / base
 
-pub run_found : (base low high : ℕ) (xs : List ℕ) → 0 < base → IsRising 0 (2 ^ 32) xs → RunEnds base xs low high → high ≤ low + 1 → IsRun base xs high
-run_found base low high xs pos r ends near =
+pub run_found : (top base low high : ℕ) (xs : List ℕ) → 0 < base → IsRising 0 top xs → RunEnds base xs low high → high ≤ low + 1 → IsRun base xs high
+run_found top base low high xs pos r ends near =
     let below = ends.below in
     let within = ends.within in
     record {
       some = omega arith;
       within = ends.within;
       shared = λ k lt.
-          let a = div_le (get_or xs 0 0) (get_or xs k 0) base pos (rising_le 0 (2 ^ 32) 0 k xs r (omega arith) (omega arith)) in
-          let b = div_le (get_or xs k 0) (get_or xs low 0) base pos (rising_le 0 (2 ^ 32) k low xs r (omega arith) (omega arith)) in
+          let a = div_le (get_or xs 0 0) (get_or xs k 0) base pos (rising_le 0 top 0 k xs r (omega arith) (omega arith)) in
+          let b = div_le (get_or xs k 0) (get_or xs low 0) base pos (rising_le 0 top k low xs r (omega arith) (omega arith)) in
           let c = ends.shared in
           omega arith;
       apart = ends.apart;

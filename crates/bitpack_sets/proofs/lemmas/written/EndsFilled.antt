@@ -5,7 +5,7 @@ use Rattle.std.proofs.lemmas.Bool.{cases_eq}
 use Rattle.std.proofs.lemmas.List.{drop-drop, drop_more, length-map, length-take-le, take-set-le}
 use Rattle.bitpack_groups.proofs.ForCallers.{IsFilled, fill_done, fill_left, fill_one, fill_start}
 use Rattle.bitpack_sets.proofs.lemmas.written.CountedRuns.{agree, differ, first_run, step_is}
-use Rattle.bitpack_sets.proofs.lemmas.written.EntriesFilled.{next_sum, no_sums}
+use Rattle.bitpack_sets.proofs.lemmas.written.DirectoryFilled.{next_sum, no_sums}
 use Rattle.bitpack_sets.proofs.lemmas.encodings.LongLaws.{sums_len}
 use Rattle.bitpack_sets.proofs.lemmas.written.RunLaws.{chunk_rest, get_drop, parts_some, slice_part}
 use Rattle.bitpack_slices.specs.Bodies.{parts}

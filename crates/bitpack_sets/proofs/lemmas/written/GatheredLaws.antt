@@ -7,7 +7,7 @@ use Rattle.bitpack_groups.proofs.ForCallers.{IsFilled, fill_done, fill_more, fil
 use Rattle.bitpack_slices.proofs.ForCallers.{flat_len}
 use Rattle.bitpack_slices.specs.Bodies.{le_bytes}
 use Rattle.bitpack_sets.proofs.lemmas.encodings.LongLaws.{sums_len}
-use Rattle.bitpack_sets.proofs.lemmas.written.EntriesFilled.{next_sum, no_sums}
+use Rattle.bitpack_sets.proofs.lemmas.written.DirectoryFilled.{next_sum, no_sums}
 use Rattle.bitpack_sets.specs.Sets.{sums}
 
 -- ---- the sums of values

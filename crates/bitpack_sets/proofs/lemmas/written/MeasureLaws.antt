@@ -2,41 +2,23 @@
 use Rattle.std.proofs.Common.{◌≡◌, false, ℕ, ◌+◌, ◌-◌, ◌*◌, ◌^◌, ◌<◌, ◌≤◌, List, [], ◌∷◌, length, take, drop, refl, sym, ap, ◌∙◌, arith, subst, length-drop}
 use Rattle.std.specs.List.{concat}
 use Rattle.bitpack_sets.proofs.lemmas.encodings.BodyLaws.{body_blocks, body_numbers, few, numbers_len}
-use Rattle.bitpack_slices.proofs.ForCallers.{rising_drop, tail_whole}
-use Rattle.bitpack_sets.proofs.lemmas.written.RunLaws.{blocks_len, body_sizes}
-use Rattle.bitpack_slices.specs.Bodies.{IsRising, blocks, numbers, parts}
+use Rattle.bitpack_sets.proofs.lemmas.written.DirectoryFilled.{PartsLeft, parts_end, parts_more}
+use Rattle.bitpack_sets.proofs.lemmas.written.RunLaws.{blocks_len}
+use Rattle.bitpack_slices.specs.Bodies.{blocks, numbers, parts}
 use Rattle.bitpack_sets.specs.Sets.{body}
 use Rattle.bitpack_slices.specs.Slices.{slice_len}
 use Rattle.bitpack_sets.specs.Written.{IsRun, bodies, lows, slices}
 
 -- the chunks of what is left are still to be measured
-pub record ChunksLeft (ids left : List ℕ) (bytes : ℕ) : Type 0 where
-  pub rising : IsRising 0 (2 ^ 32) left
-  pub sized : bytes + length (concat (bodies left)) ≡ length (concat (bodies ids))
-  pub small : bytes + 2 * length left ≤ 2 * length ids
+abbrev pub ChunksLeft : (ids left : List ℕ) (bytes : ℕ) → Type 0
+ChunksLeft ids left bytes = PartsLeft (2 ^ 32) 65536 2 body ids left bytes
 
 pub chunks_more : (ids left : List ℕ) (bytes run added : ℕ) → ChunksLeft ids left bytes → IsRun 65536 left run → added ≡ length (body (lows (take run left)))
     → added ≤ 2 * run → ChunksLeft ids (take (length left - run) (drop run left)) (bytes + added)
-chunks_more ids left bytes run added before is long few =
-    let f = body_sizes run left is in
-    let h = length-drop run left in
-    let some = is.some in
-    let within = is.within in
-    let sized = before.sized in
-    let small = before.small in
-    subst (λ (rest : List ℕ). ChunksLeft ids rest (bytes + added)) (sym (tail_whole run left))
-    record { rising = rising_drop 0 (2 ^ 32) run left before.rising; sized = omega arith; small = omega arith }
-
-no_bodies : length (concat (bodies [])) ≡ 0
-unfolding parts
-no_bodies = refl
+chunks_more = parts_more (2 ^ 32) 65536 2 body
 
 pub chunks_end : (ids left : List ℕ) (bytes : ℕ) → ChunksLeft ids left bytes → length left ≡ 0 → bytes ≡ length (concat (bodies ids))
-chunks_end ids [] bytes before none =
-    let f : length (concat (bodies [])) ≡ 0 = no_bodies in
-    let sized = before.sized in
-    omega arith
-chunks_end ids (x ∷ left) bytes before none = absurd (omega arith)
+chunks_end = parts_end (2 ^ 32) 65536 2 body
 
 -- ---- bodies
 

@@ -11,7 +11,7 @@ use Rattle.bitpack_slices.specs.Runs.{are_few, boundaries, bounds_after, runs}
 use Rattle.bitpack_sets.proofs.lemmas.encodings.BodyLaws.{body_runs, few}
 use Rattle.bitpack_sets.proofs.lemmas.encodings.EncodeLaws.{chunks_is, chunks_measured}
 use Rattle.bitpack_sets.proofs.lemmas.written.BodyFilled.{few_lows}
-use Rattle.bitpack_sets.proofs.lemmas.written.EntriesFilled.{no_parts}
+use Rattle.bitpack_sets.proofs.lemmas.written.DirectoryFilled.{no_parts}
 use Rattle.bitpack_sets.proofs.lemmas.written.MeasureLaws.{ChunksLeft, chunks_end, chunks_more}
 use Rattle.bitpack_sets.proofs.lemmas.written.RunLaws.{run_part}
 use Rattle.bitpack_sets.specs.Sets.{IsSet, body, encoding, in_chunks}
@@ -226,7 +226,7 @@ no_ids first count done all = length-range_with_len (first + done) (count - done
 -- all chunks are measured
 pub ids_counted : (first count done chunks bytes : ℕ) → IdsLeft first count done chunks bytes → count ≤ done → chunks ≡ length (parts (2 ^ 16) (range_with_len first count))
 ids_counted first count done chunks bytes left all =
-    let none = ap length (no_parts (range_with_len (first + done) (count - done)) (no_ids first count done all)) in
+    let none = ap length (no_parts 65536 (range_with_len (first + done) (count - done)) (no_ids first count done all)) in
     let counted = left.counted in
     omega arith
 

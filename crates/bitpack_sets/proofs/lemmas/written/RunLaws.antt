@@ -230,13 +230,6 @@ run_bytes count ids h = length-map (take count ids) (λ id. id % 256) ∙ length
 pub slice_bytes : (count : ℕ) (ids : List ℕ) → IsRun 256 ids count → length (slice (map (λ id. id % 256) (take count ids))) ≡ slice_len count
 slice_bytes count ids run = slice_size (map (λ id. id % 256) (take count ids)) ∙ ap slice_len (run_bytes count ids run.within)
 
-pub body_sizes : (count : ℕ) (ids : List ℕ) → IsRun 65536 ids count
-    → length (concat (bodies ids)) ≡ length (body (lows (take count ids))) + length (concat (bodies (drop count ids)))
-body_sizes count ids run =
-    let own : List ℕ = body (lows (take count ids)) in
-    let rest : List ℕ = concat (bodies (drop count ids)) in
-    ap (λ (ps : List (ℕ × List ℕ)). length (concat (map (λ chunk. body chunk.1) ps))) (run_part 65536 count ids run) ∙ length-append own rest
-
 pub blocks_len : (numbers : List ℕ) → length (blocks numbers) ≡ 1 + slice_len (length (parts 256 numbers)) + length (parts 256 numbers) + length (slices (parts 256 numbers))
 unfolding blocks_of
 blocks_len numbers =
