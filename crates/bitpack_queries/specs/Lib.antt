@@ -6,3 +6,4 @@ pub mod Pairs
 pub mod Queried
 pub mod Queries
 pub mod Retained
+pub mod Shifts

@@ -11,6 +11,7 @@ mod in_place;
 mod pairing;
 mod query;
 mod query_error;
+mod shifting;
 mod step;
 
 // For the crates above, and not for users.
@@ -25,4 +26,5 @@ pub use query::packing::query_set_to;
 pub use query::testing::test_query;
 pub use query::{Query, query_to};
 pub use query_error::QueryError;
+pub use shifting::{fill_shifted, shift_room, shift_to};
 pub use step::Step;

@@ -5,5 +5,7 @@ pub mod GatherLaws
 pub mod GatheredLaws
 pub mod LoneLaws
 pub mod RetainedLaws
+pub mod ShiftLaws
 pub mod StepLaws
 pub mod UnitedLaws
+pub mod WholeLaws

@@ -7,7 +7,7 @@ use Rattle.bitpack_queries.proofs.lemmas.two.UnitedLaws.{shared_few, union_count
 use Rattle.bitpack_queries.proofs.in_place.count_more.Goals as goal
 
 own_rise : (c : goal.After-count_shared) → IsRising 0 (2 ^ 32) c.args.values.now
-own_rise c = rises_from 0 (2 ^ 32) c.args.values.now (each_below c.args.values.now (λ k. (c.type_inv.values k).fits)) (sym c.in-None.ensures.found)
+own_rise c = rises_from 0 (2 ^ 32) c.args.values.now (each_below (2 ^ 32) c.args.values.now (λ k. (c.type_inv.values k).fits)) (sym c.in-None.ensures.found)
 
 set_rise : (c : goal.After-count_shared) → IsRising 0 (2 ^ 32) (ids c.args.set.now)
 set_rise c = let set = c.args.set.now in (ids_are_read set.bytes.now set.are_bytes set.states.none).0.rising

@@ -23,7 +23,7 @@ long_as f chunks xs ids is told = elim (cases_lt (length xs) chunks) [
 ]
 
 -- there is a chunk for each key at most
-chunks_few : (ids : List ℕ) → IsRising 0 (2 ^ 32) ids → length (parts (2 ^ 16) ids) ≤ 65536
+pub chunks_few : (ids : List ℕ) → IsRising 0 (2 ^ 32) ids → length (parts (2 ^ 16) ids) ≤ 65536
 chunks_few ids rise =
     let keys_within = rising_room 0 65536 (map (λ (chunk : ℕ × List ℕ). chunk.0) (parts (2 ^ 16) ids))
     (keys_rise 65536 0 65536 (parts (2 ^ 16) ids) (parts_are 65536 0 65536 0 ids (omega arith) (omega arith) rise)) in
