@@ -18,6 +18,7 @@ mod EncodingBack
 mod EncodingLaws
 mod EntryLaws
 mod FallLaws
+pub mod ForCallers
 mod FoundLaws
 mod FrontGroups
 mod HeaderBack
