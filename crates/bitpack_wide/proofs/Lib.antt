@@ -1,0 +1,33 @@
+-- The lemmas of this crate.
+mod ApartLaws
+mod EncodingLaws
+mod EntryLaws
+pub mod ForCallers
+mod FormLaws
+mod LocateLaws
+mod MoreLaws
+mod OrderLaws
+mod PairLaws
+mod PartLaws
+mod RoomLaws
+mod SearchLaws
+mod SeekLaws
+mod SpreadLaws
+mod StatedLaws
+mod UnpackLaws
+mod WideAbsent
+mod WideChunks
+mod WideFilled
+mod WideMissing
+mod WideRight
+mod WideSame
+mod WideSeen
+mod WideStated
+mod WideSteps
+mod WideTables
+mod WordBack
+mod WordLaws
+mod WordReads
+mod WorkedProofs
+mod WorkedWideProofs
+mod WrittenLaws

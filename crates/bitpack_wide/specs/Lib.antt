@@ -1,0 +1,25 @@
+-- The definitions of this crate.
+pub mod Builders
+pub mod Directory
+pub mod Errors
+pub mod Faults
+pub mod Forms
+pub mod inner
+pub mod Laws
+pub mod Opened
+pub mod Reads
+pub mod Sound
+pub mod Stated
+pub mod Wide
+pub mod WideColumnErrors
+pub mod WideColumnFaults
+pub mod WideColumnReads
+pub mod WideColumnSound
+pub mod WideColumnSteps
+pub mod WideColumns
+pub mod WideOpened
+pub mod WorkedFaults
+pub mod WorkedSets
+pub mod WorkedWideColumns
+pub mod WorkedWideFaults
+pub mod Written

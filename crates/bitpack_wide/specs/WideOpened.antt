@@ -1,0 +1,12 @@
+-- What a wide column that was opened shows: its bytes and its values.
+use Rattle.std.specs.Prelude.{ℕ, List, Option}
+use Rattle.bitpack_wide.specs.declared.wide_column.WideColumn.{WideColumn}
+use Rattle.bitpack_wide.specs.WideColumnReads.{values_in}
+
+-- its bytes
+abbrev pub encoding_of : WideColumn → List ℕ
+encoding_of column = column.bytes.now
+
+-- its values
+abbrev pub values : WideColumn → List (Option ℕ)
+values column = values_in (encoding_of column)

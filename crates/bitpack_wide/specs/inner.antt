@@ -1,0 +1,3 @@
+-- What serves inner contracts.
+pub mod Parts
+pub mod Writing
