@@ -627,6 +627,19 @@ ptrdiff_t bitpacking_set_combine(uint32_t operation, const bitpacking_set *views
  * a set that is not in chunks, but at most 262,144. */
 size_t bitpacking_set_combine_room(const bitpacking_set *views, size_t views_len);
 
+/* Writes the set that has a number added to each id at the start of bytes, and returns its number of bytes. The number may be below 0. An id that leaves
+ * the range from 0 to 4294967295 is left out. bytes may not overlap the bytes of the set. Bytes after the set may have changed, and any byte if the call
+ * fails.
+ *
+ * room is work space, which may hold anything: as many items as bitpacking_set_shift_room returns. The call may change any item.
+ *
+ *     SHORT  the work space is too short, or bytes_len is below the bytes of the set: BITPACKING_SET_ROOM(the number of ids) are always enough
+ */
+ptrdiff_t bitpacking_set_shift(const bitpacking_set *view, int64_t by, uint32_t *room, size_t room_len, uint8_t *bytes, size_t bytes_len);
+
+/* Returns how many items of work space bitpacking_set_shift needs: 4 for each id, at most 262,144. */
+size_t bitpacking_set_shift_room(const bitpacking_set *view);
+
 /* Writes the set of the ids of a bitmap at the start of bytes, and returns its number of bytes. The bitmap is what roaring_bitmap_portable_serialize
  * of CRoaring writes, or its counterpart in another language. Accepts any bytes, and tests all of them: they may be untrusted. Bytes after the set
  * may have changed, and any byte if the call fails. A call takes about 40 KB of stack.
@@ -758,6 +771,99 @@ static inline ptrdiff_t bitpacking_set_append_inline(const bitpacking_set *view,
 #define bitpacking_set_size(...) bitpacking_set_size_inline(__VA_ARGS__)
 #define bitpacking_set_append(...) bitpacking_set_append_inline(__VA_ARGS__)
 #endif
+
+/* ---- Wide sets
+ *
+ * A wide set has increasing ids of 64 bits, such as keys, times and hashes. Each wide set has one encoding.
+ *
+ * A view of a wide set is a struct like a view of a set, with the same rules. Set it to BITPACKING_WIDE_SET_EMPTY before anything else, or all of it
+ * to zero: each is the empty wide set.
+ *
+ *     bitpacking_wide_set set = BITPACKING_WIDE_SET_EMPTY;
+ *     if (bitpacking_wide_set_open(bytes, bytes_len, &set) < 0) return -1;
+ *     if (bitpacking_wide_set_contains(&set, 1000000000000)) ...
+ */
+typedef struct bitpacking_wide_set {
+    const uint8_t *bytes;
+    size_t bytes_len;
+    size_t count;
+    size_t words;
+    const uint8_t *rest;
+    size_t rest_len;
+} bitpacking_wide_set;
+
+#define BITPACKING_WIDE_SET_EMPTY {NULL, 0, 0, 0, NULL, 0}
+
+/* Room that is enough for every wide set of ids_len ids, in bytes. */
+#define BITPACKING_WIDE_SET_ROOM(ids_len) (22 + 33 * sizeof(uint8_t) * (ids_len) / 4)
+
+/* Writes the wide set of these ids at the start of bytes, and returns its number of bytes. Bytes after those are unchanged. The ids increase: each
+ * is above the one before it. space is work space, which may hold anything.
+ *
+ *     SHORT         space_len is below ids_len
+ *     TOO_LONG      ids_len is above 268,435,456
+ *     NOT_SORTED    an id is not above the one before it. *position is the position of the first such id, unless position is NULL
+ *     SHORT         bytes_len is below the bytes of the set: BITPACKING_WIDE_SET_ROOM(ids_len) are always enough
+ */
+ptrdiff_t bitpacking_wide_set_pack(const uint64_t *ids, size_t ids_len, uint8_t *bytes, size_t bytes_len, uint32_t *space, size_t space_len,
+                                   size_t *position);
+
+/* Returns the number of bytes that bitpacking_wide_set_pack writes for the ids, and writes none. It has the errors of that call, without the last. */
+ptrdiff_t bitpacking_wide_set_size(const uint64_t *ids, size_t ids_len, uint32_t *space, size_t space_len, size_t *position);
+
+/* The inline forms of these calls, whose position may be NULL. */
+static inline ptrdiff_t bitpacking_wide_set_pack_inline(const uint64_t *ids, size_t ids_len, uint8_t *bytes, size_t bytes_len, uint32_t *space,
+                                                        size_t space_len, size_t *position)
+{
+    size_t ignored;
+
+    return (bitpacking_wide_set_pack)(ids, ids_len, bytes, bytes_len, space, space_len, position ? position : &ignored);
+}
+
+static inline ptrdiff_t bitpacking_wide_set_size_inline(const uint64_t *ids, size_t ids_len, uint32_t *space, size_t space_len, size_t *position)
+{
+    size_t ignored;
+
+    return (bitpacking_wide_set_size)(ids, ids_len, space, space_len, position ? position : &ignored);
+}
+
+#ifndef BITPACKING_NO_INLINE
+#define bitpacking_wide_set_pack(...) bitpacking_wide_set_pack_inline(__VA_ARGS__)
+#define bitpacking_wide_set_size(...) bitpacking_wide_set_size_inline(__VA_ARGS__)
+#endif
+
+/* Opens a wide set. Accepts any bytes, and tests all of them: they may be untrusted. Returns 0; or the number of the first fault in the order of
+ * docs/FORMAT.md, and then the view is unchanged. */
+ptrdiff_t bitpacking_wide_set_open(const uint8_t *bytes, size_t bytes_len, bitpacking_wide_set *view);
+
+/* Opens bytes that bitpacking_wide_set_open accepted before, and that did not change since. It does not test them again. With other bytes this call or
+ * a later one may read or write outside its buffers. */
+void bitpacking_wide_set_open_tested(const uint8_t *bytes, size_t bytes_len, bitpacking_wide_set *view);
+
+/* Returns how many ids an opened wide set has. */
+size_t bitpacking_wide_set_len(const bitpacking_wide_set *view);
+
+/* Returns 1 if the wide set has this id, and else 0. */
+int32_t bitpacking_wide_set_contains(const bitpacking_wide_set *view, uint64_t id);
+
+/* Returns how many ids of the wide set are below target. It is the position of target, if the wide set has it. */
+size_t bitpacking_wide_set_rank(const bitpacking_wide_set *view, uint64_t target);
+
+/* Writes the id at a position, from 0 on, and returns 1. From the number of ids on it returns 0 and writes nothing. */
+int32_t bitpacking_wide_set_get(const bitpacking_wide_set *view, size_t position, uint64_t *id);
+
+/* Writes the first id that is at least target, and its position, and returns 1. If all ids are below target it returns 0 and writes nothing. */
+int32_t bitpacking_wide_set_seek(const bitpacking_wide_set *view, uint64_t target, size_t *position, uint64_t *id);
+
+/* Unpacks all ids, and returns their number. Those in the buffer after them are unchanged.
+ *
+ *     SHORT         ids_len is below the number of ids
+ */
+ptrdiff_t bitpacking_wide_set_unpack(const bitpacking_wide_set *view, uint64_t *ids, size_t ids_len);
+
+/* Unpacks the ids from position `from` on, as many as there are and as fit, and returns how many these are: 0 from the number of ids on. Those in the
+ * buffer after them are unchanged. */
+ptrdiff_t bitpacking_wide_set_slice(const bitpacking_wide_set *view, size_t from, uint64_t *ids, size_t ids_len);
 
 /* ---- Columns
  *

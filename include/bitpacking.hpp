@@ -67,28 +67,47 @@ inline std::size_t checked(std::ptrdiff_t returned, std::ptrdiff_t *number = nul
     return returned < 0 ? 0 : static_cast<std::size_t>(returned);
 }
 
-/* The functions of bitpacking.h that sets and columns have both, and the bytes without numbers. */
+/* The functions of bitpacking.h that sets and columns have both, the bytes without numbers, and what an iterator reads. */
 struct of_sets {
     using view = bitpacking_set;
+    using reader = bitpacking_set_cursor;
     static constexpr auto open = bitpacking_set_open;
     static constexpr auto open_tested = bitpacking_set_open_tested;
     static constexpr auto len = bitpacking_set_len;
     static constexpr auto get = bitpacking_set_get;
     static constexpr auto slice = bitpacking_set_slice;
     static constexpr std::uint8_t none[] = {0x80};
+
+    static reader start(const view &set) noexcept
+    {
+        reader cursor{};
+        bitpacking_set_cursor_start(&cursor, &set);
+        return cursor;
+    }
+    static std::ptrdiff_t fill(reader &cursor, std::size_t, std::uint32_t *part, std::size_t part_len) noexcept
+    {
+        return bitpacking_set_cursor_fill(&cursor, part, part_len);
+    }
 };
 
 struct of_columns {
     using view = bitpacking_column;
+    using reader = bitpacking_column;
     static constexpr auto open = bitpacking_column_open;
     static constexpr auto open_tested = bitpacking_column_open_tested;
     static constexpr auto len = bitpacking_column_len;
     static constexpr auto get = bitpacking_column_get;
     static constexpr auto slice = bitpacking_column_range;
     static constexpr std::uint8_t none[] = {0x40};
+
+    static reader start(const view &column) noexcept { return column; }
+    static std::ptrdiff_t fill(const reader &column, std::size_t position, std::uint32_t *part, std::size_t part_len) noexcept
+    {
+        return bitpacking_column_range(&column, position, part, part_len);
+    }
 };
 
-/* An iterator. It unpacks up to 256 numbers at once, and has a size of about 1 KB. */
+/* An iterator. It unpacks up to 256 numbers at once. Its size is about 1 KB, or 2 KB if it is of a set. */
 template <class Of> class iterator {
 public:
     using iterator_category = std::forward_iterator_tag;
@@ -98,7 +117,7 @@ public:
     using reference = std::uint32_t;
 
     iterator() = default;
-    iterator(const typename Of::view &view, std::size_t position) : view_(view), position_(position) { unpack(); }
+    iterator(const typename Of::reader &reader, std::size_t position) : reader_(reader), position_(position) { unpack(); }
 
     std::uint32_t operator*() const noexcept { return part_[index_]; }
     iterator &operator++() noexcept
@@ -125,10 +144,10 @@ private:
     void unpack() noexcept
     {
         index_ = 0;
-        len_ = position_ < Of::len(&view_) ? static_cast<std::size_t>(Of::slice(&view_, position_, part_, 256)) : 0;
+        len_ = static_cast<std::size_t>(Of::fill(reader_, position_, part_, 256));
     }
 
-    typename Of::view view_{};
+    typename Of::reader reader_{};
     std::size_t position_ = 0, index_ = 0, len_ = 0;
     std::uint32_t part_[256] = {};
 };
@@ -170,8 +189,8 @@ public:
     /* Returns all numbers. A set of 49 KB may have 268,435,456. */
     std::vector<std::uint32_t> unpack() const { return slice(0, size()); }
 
-    const_iterator begin() const noexcept { return {view_, 0}; }
-    const_iterator end() const noexcept { return {view_, size()}; }
+    const_iterator begin() const noexcept { return {Of::start(view_), 0}; }
+    const_iterator end() const noexcept { return {{}, size()}; }
 
     /* Returns whether the bytes are equal. Then so are the ids, or the kind and the values: each has one encoding. */
     friend bool operator==(const readable &one, const readable &other) noexcept
@@ -210,7 +229,13 @@ public:
     }
 
     /* Returns the iterator that begins with the first id that is at least target. */
-    const_iterator lower_bound(std::uint32_t target) const noexcept { return {view_, rank(target)}; }
+    const_iterator lower_bound(std::uint32_t target) const noexcept
+    {
+        auto cursor = of::start(view_);
+        std::uint32_t id = 0;
+        bitpacking_set_cursor_seek(&cursor, target, &id);
+        return {cursor, bitpacking_set_cursor_position(&cursor)};
+    }
 
     /* Return the least and the greatest id, or nothing if there is none. */
     std::optional<std::uint32_t> min() const noexcept { return get(0); }
@@ -414,6 +439,16 @@ public:
         std::vector<std::uint32_t> room(bitpacking_set_from_roaring_room(roaring, roaring_len));
         return written(roaring_len / 4 * 5 + 16, number, [&](std::uint8_t *bytes, std::size_t bytes_len) {
             return bitpacking_set_from_roaring(roaring, roaring_len, room.data(), room.size(), bytes, bytes_len);
+        });
+    }
+
+    /* Makes the set that has a number added to each id, without ids that leave their range. The number may be below 0. */
+    static id_set shifted(const readable_set &set, std::int64_t by)
+    {
+        const bitpacking_set view = set.view();
+        std::vector<std::uint32_t> room(bitpacking_set_shift_room(&view));
+        return written(set.bytes_len() / 4 * 5 + 16, nullptr, [&](std::uint8_t *bytes, std::size_t bytes_len) {
+            return bitpacking_set_shift(&view, by, room.data(), room.size(), bytes, bytes_len);
         });
     }
 

@@ -11,11 +11,11 @@ from common import version
 from texts import code, paths, results, text_of
 
 C_TYPES = {"usize": "size_t", "isize": "ptrdiff_t", "QueryStep": "uint32_t"}
-C_TYPES |= {"u8": "uint8_t", "u32": "uint32_t", "i32": "int32_t", "u64": "uint64_t"}
+C_TYPES |= {"u8": "uint8_t", "u32": "uint32_t", "i32": "int32_t", "u64": "uint64_t", "i64": "int64_t"}
 CRATE, RANKED = "crates/bitpacking_c/src", "crates/bitpack_ranked/src"
 STRUCTS = {"Walk": f"{RANKED}/walk.rt", "Scored": f"{RANKED}/found.rt", "BlockBounds": f"{RANKED}/block_bounds.rt"}
 STRUCTS |= {f"{it}{what}": f"{CRATE}/{it.lower()}_{what.lower()}.rt" for it in ("Set", "Column") for what in ("View", "Builder")}
-STRUCTS |= {"TermView": f"{CRATE}/term_view.rt", "SetCursor": f"{CRATE}/set_cursor.rt"}
+STRUCTS |= {"TermView": f"{CRATE}/term_view.rt", "SetCursor": f"{CRATE}/set_cursor.rt", "WideSetView": f"{CRATE}/wide_set_view.rt"}
 STRUCTS["Description"] = "crates/bitpack_sets/src/describing.rt"
 # Structs whose fields stand in place of a field of this type.
 INNER = {"Window": "crates/bitpack_sets/src/window.rt", "ChunkPlace": "crates/bitpack_sets/src/place.rt"}

@@ -33,10 +33,13 @@ mod set_pairs;
 mod set_positions;
 mod set_query;
 mod set_roaring;
+mod set_shifting;
 mod set_view;
 mod set_wide;
 mod term_view;
 mod version;
+mod wide_set_packing;
+mod wide_set_view;
 
 pub use call_error::CallError;
 pub use column_builder::ColumnBuilder;
