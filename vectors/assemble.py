@@ -9,6 +9,7 @@ digests.tsv in the form of lists.tsv.
 """
 
 import sys
+from itertools import groupby
 
 sys.dont_write_bytecode = True
 
@@ -21,9 +22,12 @@ from parts import FOLDER, KINDS, LANES, body_of, list_text, plain_blocks
 from refusals import number_of, refused_rows
 from refused_columns import damaged_columns, refused_columns
 from refused_id_sets import damaged_sets, refused_id_sets
+from refused_wide_sets import damaged_wide_sets, refused_wide_sets
 from roaring import WORKED as WORKED_BITMAPS, bitmaps, damaged_bitmaps, refused_bitmaps
 from rules import rule_of
 from sets import intersections, refused_values, searches
+from wide_columns import damaged_wide_columns, refused_wide_columns, wide_columns
+from wide_sets import wide_sets
 
 
 def field(value):
@@ -61,6 +65,18 @@ def refused_set_rows():
         yield number_of(fault), fault, spelled_bytes(text)
 
 
+def wide_set_rows():
+    """The wide sets, and after them the damaged texts that are the text of another set."""
+    found = {text: ids for ids, text in wide_sets()} | {text: ids for text, fault, ids in damaged_wide_sets() if fault is None}
+    for text, ids in found.items():
+        yield spelled_ids(ids), spelled_bytes(text)
+
+
+def refused_wide_set_rows():
+    for fault, text in refused_wide_sets():
+        yield number_of(fault), fault, spelled_bytes(text)
+
+
 def bitmap_rows():
     """Roaring's bitmaps, and after them the damaged texts that are another bitmap."""
     worked = {bytes.fromhex(text).hex() for text in WORKED_BITMAPS.values()}
@@ -87,6 +103,26 @@ def refused_column_rows():
         yield number_of(fault), fault, spelled_bytes(text)
 
 
+def spelled_values(values):
+    """Values with commas, and none between two where one is missing. `{7,*16}` are sixteen times the same."""
+    spelled = ["" if value is None else str(value) for value in values]
+    runs = [(text, len([*run])) for text, run in groupby(spelled)]
+    text = "".join(f"{{{text},*{count}}}" if count > 4 else f"{text}," * count for text, count in runs)
+    return text or "-"
+
+
+def wide_column_rows():
+    """The wide columns, and after them the damaged texts that are the text of another one."""
+    found = wide_columns() | {text: values for text, fault, values in damaged_wide_columns() if fault is None}
+    for text, values in found.items():
+        yield spelled_values(values), spelled_bytes(text)
+
+
+def refused_wide_column_rows():
+    for fault, text in refused_wide_columns():
+        yield number_of(fault), fault, spelled_bytes(text)
+
+
 def tables(blocks):
     """The text of each file, by its name."""
     found = {
@@ -98,11 +134,15 @@ def tables(blocks):
         "refused_values.tsv": table("kind lanes values position", refused_values()),
         "id_sets.tsv": table("ids bytes", set_rows()),
         "refused_id_sets.tsv": table("number fault bytes", refused_set_rows()),
+        "wide_sets.tsv": table("ids bytes", wide_set_rows()),
+        "refused_wide_sets.tsv": table("number fault bytes", refused_wide_set_rows()),
         "combined_id_sets.tsv": table("ids others both", (map(spelled_ids, it) for it in combined_id_sets())),
         "bitmaps.tsv": table("ids bytes croaring", bitmap_rows()),
         "refused_bitmaps.tsv": table("number fault bytes", refused_bitmap_rows()),
         "columns.tsv": table("kind values bytes", column_rows()),
         "refused_columns.tsv": table("number fault bytes", refused_column_rows()),
+        "wide_columns.tsv": table("values bytes", wide_column_rows()),
+        "refused_wide_columns.tsv": table("number fault bytes", refused_wide_column_rows()),
         "digests.tsv": table("kind lanes count bits version length sha256", digests()),
     }
     upgraded = [(lanes, text, fault_number(fault), fault, after) for lanes, text, fault, after in upgrades(blocks)]

@@ -243,25 +243,31 @@ def body_numbers(m, position, count, body):
     return numbers
 
 
-def chunks_at(at, count, text):
-    chunks, at = number_at(at, text)
-    need(1 <= chunks <= min(count // 4, 65_536), "BadNumber")
+def directory_at(at, count, key_len, chunks, most, longest, text):
+    """The keys, counts and lengths of bodies, each of at most so many numbers, and in at most as many bytes as `longest` says."""
     need(len(text) > at, "Short")
     z, e = divmod(text[at], 16)
     need(e in (1, 2, 3, 4) and z in (1, 2, 3, 4), "BadSizes", text[at])
-    need(len(text) - at - 1 >= chunks * (2 + e + z), "Short")
-    sizes, (keys, at) = text[at], shorts_at(at + 1, 2, chunks, text)
+    need(len(text) - at - 1 >= chunks * (key_len + e + z), "Short")
+    sizes, (keys, at) = text[at], shorts_at(at + 1, key_len, chunks, text)
     ends, at = shorts_at(at, e, chunks, text)
     sums, at = shorts_at(at, z, chunks, text)
     counts = [after - before for before, after in zip([0, *sums], sums)]
     lens = [after - before for before, after in zip([0, *ends], ends)]
     for m in range(chunks):
         need(m == 0 or keys[m - 1] < keys[m], "BadKey", m)
-        need(1 <= counts[m] <= 65_536, "BadSum", m)
+        need(1 <= counts[m] <= most, "BadSum", m)
         need(m < chunks - 1 or sums[m] == count, "BadSum", m)
-        need(1 <= lens[m] <= 2 * counts[m], "BadOffset", m)
+        need(1 <= lens[m] <= longest(counts[m]), "BadOffset", m)
     need(e == least_bytes(ends[-1]) and z == least_bytes(count), "BadSizes", sizes)
     need(len(text) - at >= ends[-1], "Short")
+    return keys, counts, lens, at
+
+
+def chunks_at(at, count, text):
+    chunks, at = number_at(at, text)
+    need(1 <= chunks <= min(count // 4, 65_536), "BadNumber")
+    keys, counts, lens, at = directory_at(at, count, 2, chunks, 65_536, lambda k: 2 * k, text)
     ids = []
     for m in range(chunks):
         numbers = body_numbers(m, len(ids), counts[m], text[at : at + lens[m]])
@@ -392,3 +398,71 @@ def decode_column(text):
         need(values[p - 1] <= values[p] if p else values[0] == first, "NotSorted", p)
     need(len(text) == at, "Trailing")
     return kind, values
+
+
+# Wide columns: the values, None for a missing one.
+
+
+def wide_parts_at(at, count, text):
+    need(at < len(text), "Short")
+    chunks, sizes, (w, e) = (count + 65_535) // 65_536, text[at], divmod(text[at], 16)
+    need(1 <= e <= 4 and 1 <= w <= 8, "BadSizes", sizes)
+    need(len(text) - at - 1 >= 2 * w * chunks + e * (2 * chunks + 1), "Short")
+    bounds, at = shorts_at(at + 1, w, 2 * chunks, text)
+    ends, at = shorts_at(at, e, 2 * chunks + 1, text)
+    starts = [0, *ends[:-1]]
+    for j, (start, end) in enumerate(zip(starts, ends)):
+        need(start <= end, "BadOffset", j)
+    need(e == least_bytes(ends[-1]) and w == least_bytes(max(bounds, default=0)), "BadSizes", sizes)
+    need(len(text) - at >= ends[-1], "Short")
+    need(len(text) - at <= ends[-1], "Trailing")
+    return bounds, [text[at + start : at + end] for start, end in zip(starts, ends)]
+
+
+def wide_part(j, decode, text):
+    try:
+        return decode(text)
+    except ValueError:
+        raise ValueError("BadBody", j) from None
+
+
+def wide_numbers(j, count, text):
+    """The numbers of part j, a column, and whether its kind is that of their order."""
+    kind, found = wide_part(j, decode_column, text)
+    need(len(found) == count, "BadBody", j)
+    return found, (kind == 1) == (found == sorted(found))
+
+
+def wide_chunk(m, bounds, low, high, there):
+    """The values of chunk m. `there` says of each position whether it has one."""
+    lows, right = wide_numbers(2 * m + 1, len(there), low)
+    highs, right_too = len(there) * [0], True
+    if bounds[1] - bounds[0] >= 2**32:
+        highs, right_too = wide_numbers(2 * m + 2, len(there), high)
+    else:
+        need(high == b"", "BadBody", 2 * m + 2)
+    found = [bounds[0] + a + 2**32 * b for a, b in zip(lows, highs)]
+    values = [value for value, has in zip(found, there) if has] or [0]
+    need(right and right_too and bounds == [min(values), max(values)], "LooseBody", m)
+    before = values[0]
+    for value, has in zip(found, there):
+        before = value if has else before
+        need(value == before, "LooseBody", m)
+    return [value if has else None for value, has in zip(found, there)]
+
+
+def decode_wide_column(text):
+    need(len(text) > 0, "Short")
+    need(text[0] in (10, 11), "BadVersion", text[0])
+    n, at = number_at(1, text)
+    need(n <= 2**28, "TooLong", n)
+    bounds, parts = wide_parts_at(at, n, text)
+    missing = {*wide_part(0, decode_set, parts[0])}
+    need(max(missing, default=-1) < n, "BadBody", 0)
+    values = []
+    for m in range(len(bounds) // 2):
+        there = [p not in missing for p in range(65_536 * m, min(n, 65_536 * m + 65_536))]
+        values += wide_chunk(m, bounds[2 * m : 2 * m + 2], parts[2 * m + 1], parts[2 * m + 2], there)
+    there = [value for value in values if value is not None]
+    need((text[0] == 11) == (there == sorted(there)), "LooseForm")
+    return values

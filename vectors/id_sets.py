@@ -103,14 +103,20 @@ def sums_of(counts):
     return [sum(counts[: m + 1]) for m in range(len(counts))]
 
 
-def chunked(count, keys, ends, sums, bodies, sizes=None, chunks=None):
-    """The bytes of a set in chunks from its parts, with the least sizes if none are given, and a count of chunks."""
+def directory(form, key_len, count, keys, ends, sums, bodies, sizes=None, chunks=None):
+    """The bytes of parts, each with a key: the form, the count of ids, the keys of this length, ends, sums, and bodies. The least sizes and the
+    count of keys are as they should be, if they are not given."""
     if sizes is None:
         sizes = sum(size * (1 + (last >= 256) + (last >= 2**16) + (last >= 2**24)) for size, last in [(1, ends[-1]), (16, count)])
-    text = bytes([5]) + number(count) + number(len(keys) if chunks is None else chunks) + bytes([sizes])
-    for size, numbers in [(2, keys), (sizes % 16, ends), (sizes // 16, sums)]:
+    text = bytes([form]) + number(count) + number(len(keys) if chunks is None else chunks) + bytes([sizes])
+    for size, numbers in [(key_len, keys), (sizes % 16, ends), (sizes // 16, sums)]:
         text += b"".join(it.to_bytes(size, "little") for it in numbers)
     return text + b"".join(bodies)
+
+
+def chunked(*parts, **more):
+    """The bytes of a set in chunks from its parts."""
+    return directory(5, 2, *parts, **more)
 
 
 def few_of(ids):

@@ -4,7 +4,7 @@ texts with drawn bytes are found by decoders.py."""
 from columns import WORKED, blocks_text, column_text, header
 from decoders import decode_column
 from parts import CUT_NUMBERS, MOST, NO_NUMBERS, body_of, drawn, group, number
-from refused_id_sets import fault_of
+from refused_id_sets import each_once, fault_of
 
 # Bytes worked by hand.
 WORKED_REFUSALS = {
@@ -225,11 +225,4 @@ def damaged_columns():
 
 def refused_columns():
     """Each text with its fault, once."""
-    found = {}
-    for part in [worked_refusals, refused_fronts, refused_sizes, refused_blocks, refused_tails, cut_columns]:
-        for fault, text in part():
-            assert found.setdefault(text, fault) == fault, (part, fault, found[text], text.hex())
-    for text, fault, _ in damaged_columns():
-        if fault:
-            found.setdefault(text, fault)
-    return [(fault, text) for text, fault in found.items()]
+    return each_once([worked_refusals, refused_fronts, refused_sizes, refused_blocks, refused_tails, cut_columns], damaged_columns)

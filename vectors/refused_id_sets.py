@@ -397,13 +397,19 @@ def damaged_sets():
         yield text, *fault_of(decode_set, text)
 
 
-def refused_id_sets():
-    """Each text with its fault, once."""
+def each_once(parts, damaged):
+    """Each text of the parts with its fault, once, and then the damaged texts that have a fault."""
     found = {}
-    for part in [worked_refusals, refused_fronts, refused_few, refused_arrays, refused_directories, refused_bodies, cut_sets]:
+    for part in parts:
         for fault, text in part():
             assert found.setdefault(text, fault) == fault, (part, fault, found[text], text.hex())
-    for text, fault, _ in damaged_sets():
+    for text, fault, _ in damaged():
         if fault:
             found.setdefault(text, fault)
     return [(fault, text) for text, fault in found.items()]
+
+
+def refused_id_sets():
+    """Each text with its fault, once."""
+    parts = [worked_refusals, refused_fronts, refused_few, refused_arrays, refused_directories, refused_bodies, cut_sets]
+    return each_once(parts, damaged_sets)

@@ -35,18 +35,18 @@ def body_bytes(numbers):
     return blocks if len(blocks) < len(pairs) else pairs
 
 
-def chunks_bytes(count, chunks):
+def directory_bytes(form, key_len, count, chunks, bytes_of):
     end, total, ends, sums, bodies = 0, 0, [], [], b""
     for numbers in chunks.values():
-        body = body_bytes(numbers)
+        body = bytes_of(numbers)
         end += len(body)
         total += len(numbers)
         ends.append(end)
         sums.append(total)
         bodies += body
     (e, ends), (z, sums) = shorts_of(ends), shorts_of(sums)
-    keys = b"".join(key.to_bytes(2, "little") for key in chunks)
-    return bytes([5]) + number_of(count) + number_of(len(chunks)) + bytes([e + 16 * z]) + keys + ends + sums + bodies
+    keys = b"".join(key.to_bytes(key_len, "little") for key in chunks)
+    return bytes([form]) + number_of(count) + number_of(len(chunks)) + bytes([e + 16 * z]) + keys + ends + sums + bodies
 
 
 def encode_set(ids):
@@ -60,7 +60,7 @@ def encode_set(ids):
         chunks.setdefault(value >> 16, []).append(value & 65_535)
     if len(ids) < 4 * len(chunks):
         return bytes([6]) + number_of(len(ids)) + b"".join(value.to_bytes(4, "little") for value in ids)
-    return chunks_bytes(len(ids), chunks)
+    return directory_bytes(5, 2, len(ids), chunks, body_bytes)
 
 
 # Roaring's portable format, each container in its shortest form.
@@ -76,7 +76,10 @@ def roaring_container(numbers):
         return b"".join(it.to_bytes(2, "little") for it in [len(firsts), *pairs]), True
     if len(numbers) <= 4096:
         return b"".join(it.to_bytes(2, "little") for it in numbers), False
-    return sum(1 << number for number in numbers).to_bytes(8192, "little"), False
+    bits = bytearray(8192)
+    for number in numbers:
+        bits[number // 8] += 1 << number % 8
+    return bytes(bits), False
 
 
 def encode_roaring(ids):
