@@ -119,6 +119,8 @@ references! { 'a:
     crate::ranking::Parts<'a>, v3::ranking::Parts<'a>;
     crate::ranking::Walk, v3::ranking::Walk;
     crate::ranking::Scored, v3::ranking::Scored;
+    v3::wide::Parts<'a>, crate::wide::Parts<'a>;
+    crate::wide::WideSet<'a>, v3::wide::WideSet<'a>;
 }
 
 /// What opening found.
@@ -133,7 +135,7 @@ macro_rules! parts {
     )*};
 }
 
-parts!(columns sets);
+parts!(columns sets wide);
 
 // REQUIRES: the other copy has the same ids, since it reads the same bytes.
 impl<T: crate::sets::AsSet> v3::sets::AsSet for T {

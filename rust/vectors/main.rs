@@ -11,6 +11,7 @@ mod report;
 mod roaring;
 mod rows;
 mod sets;
+mod wide_sets;
 
 use std::env;
 use std::process::ExitCode;
@@ -19,7 +20,7 @@ use report::Report;
 use rows::Row;
 
 /// Each table, and what checks a row of it.
-const TABLES: [(&str, fn(&Row, &mut Report)); 22] = [
+const TABLES: [(&str, fn(&Row, &mut Report)); 24] = [
     ("blocks.tsv", blocks::packed),
     ("single.tsv", blocks::packed),
     ("loose.tsv", blocks::packed),
@@ -37,6 +38,8 @@ const TABLES: [(&str, fn(&Row, &mut Report)); 22] = [
     ("refused_id_sets.tsv", sets::refused),
     ("combined_id_sets.tsv", combined_sets::combined),
     ("combined_id_sets.tsv", query_trees::queried),
+    ("wide_sets.tsv", wide_sets::opened),
+    ("refused_wide_sets.tsv", wide_sets::refused),
     ("bitmaps.tsv", roaring::read),
     ("refused_bitmaps.tsv", roaring::refused),
     ("columns.tsv", columns::opened),

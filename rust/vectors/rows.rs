@@ -1,5 +1,6 @@
 //! The rows of a table: fields between tabs, named by the first line.
 
+use std::fmt::Debug;
 use std::fs;
 
 use bitpacking::bitpacking::Kind;
@@ -52,7 +53,7 @@ impl Row {
     }
 
     /// The ids of a set: `5-9` is five of them, and `0-8/2` those with steps of 2.
-    pub fn ids(&self, name: &str) -> Vec<u32> {
+    pub fn ids<T: TryFrom<usize, Error: Debug>>(&self, name: &str) -> Vec<T> {
         let runs = self.text(name).split(',').filter(|it| *it != "-");
         let run = |it: &str| {
             let (ends, step) = it.split_once('/').unwrap_or((it, "1"));

@@ -3,10 +3,11 @@
 use alloc::vec::Vec;
 use core::ops::{Bound, RangeBounds};
 
-use super::combining::try_combine_set;
+use super::combining::{try_combine_set, written};
 use super::packing::packed;
 use super::{Error, IdSet, IdSetBuf};
 use crate::growing::Growing;
+use crate::queries;
 use crate::sets;
 use crate::slices::Operation;
 
@@ -230,5 +231,25 @@ impl IdSet {
         }
         let sets: Vec<&IdSet> = lacked.iter().map(|set| &**set).collect();
         try_combine_set(Operation::Or, &sets)
+    }
+
+    /// Returns the set that has a number added to each id, which may be below 0. Ids that leave the range of `u32` are left out. If the low 16 bits
+    /// of the number are 0, it takes as long as to copy the bytes. Allocates these, and at most 1 MB while it runs.
+    ///
+    /// # Errors
+    ///
+    /// `Memory`.
+    ///
+    /// ```
+    /// use bitpacking::set::IdSetBuf;
+    ///
+    /// let set = IdSetBuf::pack(&[1, 4, 4_294_967_295])?;
+    /// assert_eq!((set.shift(2)?.unpack(), set.shift(-4)?.unpack()), (vec![3, 6], vec![0, 4_294_967_291]));
+    /// # Ok::<(), bitpacking::set::Error>(())
+    /// ```
+    pub fn shift(&self, by: i64) -> Result<IdSetBuf, Error> {
+        let set = self.code();
+        let most = self.as_bytes().len() / 4 * 5;
+        written(queries::shift_room(&set), most, |room, bytes| queries::shift_to(&set, by, room, bytes))
     }
 }

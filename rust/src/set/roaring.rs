@@ -60,7 +60,8 @@ impl IdSet {
     }
 
     /// Returns the ids as a bitmap in Roaring's portable format: the bytes that `roaring_bitmap_portable_serialize` of CRoaring writes after
-    /// `roaring_bitmap_run_optimize`. `deserialize_from` of the crate `roaring` reads them. Allocates [`roaring_len`](IdSet::roaring_len) bytes.
+    /// `roaring_bitmap_run_optimize`. `deserialize_from` of the crate `roaring` reads them. Allocates these, or at first up to three times as many as the
+    /// set has.
     ///
     /// # Errors
     ///
@@ -75,9 +76,14 @@ impl IdSet {
     /// # Ok::<(), Error>(())
     /// ```
     pub fn to_roaring(&self) -> Result<Vec<u8>, Error> {
-        let mut bytes = Vec::new();
-        bytes.try_resize(self.roaring_len(), 0).map_err(|_| Error::Memory)?;
-        roaring::set_to_roaring(&self.code(), &mut bytes);
+        let (set, mut bytes) = (self.code(), Vec::new());
+        // To measure the bitmap takes longer than room that is enough for it, unless that is far more than the set takes.
+        let most = 8 + 9 * set.places() + (2 * self.len()).min(8192 * set.places());
+        let room = if most <= 3 * self.as_bytes().len() { most } else { self.roaring_len() };
+        bytes.try_resize(room, 0).map_err(|_| Error::Memory)?;
+        let len = roaring::set_to_roaring(&set, &mut bytes);
+        bytes.truncate(len);
+        bytes.shrink_to_fit();
         Ok(bytes)
     }
 }

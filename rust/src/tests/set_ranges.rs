@@ -91,6 +91,20 @@ fn put_in_and_taken_out() {
 }
 
 #[test]
+fn moved_by_a_number() {
+    let mut numbers = Numbers(23);
+    for round in 0..10 * FORMS {
+        let model = some_ids(&mut numbers, round % FORMS);
+        let set = packed(&model);
+        let far = i64::from(numbers.next());
+        for by in [0, 1, -1, 65536, -65536, 7 << 16, far, -far, i64::from(LAST), 1 << 32, i64::MAX, i64::MIN] {
+            let moved = model.iter().filter_map(|&id| u32::try_from(i64::from(id).checked_add(by)?).ok());
+            assert_eq!(set.shift(by).unwrap().as_bytes(), packed(&moved.collect()).as_bytes());
+        }
+    }
+}
+
+#[test]
 fn more_ids_than_a_set_has() {
     let mut set = IdSetBuf::open(longest(0)).unwrap();
     let whole = set.clone();

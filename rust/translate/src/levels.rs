@@ -5,13 +5,14 @@
 pub type File = (&'static str, &'static str);
 
 /// The modules that have a second copy. Chains and the functions for C have none: they call functions that go over to it.
-pub const COPIED: [&str; 9] = ["register", "bitpacking", "groups", "slices", "sets", "queries", "roaring", "columns", "ranking"];
+pub const COPIED: [&str; 10] =
+    ["register", "bitpacking", "groups", "slices", "sets", "queries", "roaring", "columns", "ranking", "wide"];
 
 /// The features of the level that the functions of the second copy have. `rust/src/level.rs` asks the processor for them.
 pub const FEATURES: &str = "avx2,bmi1,bmi2,lzcnt,popcnt";
 
 /// Types that both copies share. In the second copy the file of such a type re-exports the type of the first copy.
-pub const SHARED: [(File, &str); 10] = [
+pub const SHARED: [(File, &str); 11] = [
     (("bitpacking", "kind.rt"), "Kind"),
     (("groups", "group_error.rt"), "GroupError"),
     (("slices", "operation.rt"), "Operation"),
@@ -22,10 +23,11 @@ pub const SHARED: [(File, &str); 10] = [
     (("columns", "column_error.rt"), "ColumnError"),
     (("columns", "column_kind.rt"), "ColumnKind"),
     (("ranking", "block_bounds.rt"), "BlockBounds"),
+    (("wide", "wide_error.rt"), "WideError"),
 ];
 
 /// Types that each copy has, and whose values cross from one to the other: both have the layout of C. The sources give it to `Place` and `ChunkPlace`.
-pub const CROSSING: [(File, &str); 12] = [
+pub const CROSSING: [(File, &str); 14] = [
     (("bitpacking", "bitpacker8x.rt"), "BitPacker8x"),
     (("bitpacking", "instruction_set.rt"), "InstructionSet"),
     (("bitpacking", "memory.rt"), "Steps"),
@@ -38,6 +40,8 @@ pub const CROSSING: [(File, &str); 12] = [
     (("columns", "column.rt"), "Parts"),
     (("ranking", "parts.rt"), "Parts"),
     (("ranking", "walk.rt"), "Walk"),
+    (("wide", "opening.rt"), "Parts"),
+    (("wide", "wide_set.rt"), "WideSet"),
 ];
 
 /// Functions of one file that go over to the second copy, and what names them there: a type, or a module.
@@ -53,7 +57,7 @@ const fn entries(file: File, of: &'static str, functions: &'static [&'static str
 
 /// What the functions for Rust and for C call, if it reads or writes more than a few bytes. Blocks of 128 and of 32 values gain less than the choice
 /// costs, and so does one value of a column.
-pub const ENTRIES: [Entries; 29] = [
+pub const ENTRIES: [Entries; 32] = [
     entries(("bitpacking", "bitpacker8x.rt"), "BitPacker8x", &["pack_unmeasured", "unpack_counted", "width_counted"]),
     entries(("sets", "opening.rt"), "opening", &["test_encoding"]),
     entries(("queries", "combining.rt"), "combining", &["combine_to", "combine_count", "is_disjoint", "is_subset"]),
@@ -83,6 +87,9 @@ pub const ENTRIES: [Entries; 29] = [
     entries(("ranking", "ranking.rt"), "ranking", &["best_bounded"]),
     entries(("ranking", "bounding.rt"), "bounding", &["bound_blocks"]),
     entries(("ranking", "among.rt"), "among", &["best_among"]),
+    entries(("wide", "encoding.rt"), "encoding", &["encode", "encode_to", "encoded_len"]),
+    entries(("wide", "opening.rt"), "opening", &["test_encoding"]),
+    entries(("wide", "wide_set.rt"), "WideSet", &["contains", "rank", "select", "seek", "copy_to", "copy_range"]),
 ];
 
 /// Functions of `ENTRIES` that go over only if the slice that is named has at least `MANY` values. Builders call them for each value.

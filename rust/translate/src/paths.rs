@@ -20,7 +20,7 @@ macro_rules! module {
 }
 
 /// The crates, the lowest first, with their modules.
-pub const CRATES: [Module; 11] = [
+pub const CRATES: [Module; 12] = [
     module!("bitpacking_register", "register", is_for_c: false),
     module!("bitpacking", "bitpacking", is_for_c: false),
     module!("bitpack_groups", "groups", is_for_c: false),
@@ -30,6 +30,7 @@ pub const CRATES: [Module; 11] = [
     module!("bitpack_roaring", "roaring", is_for_c: false),
     module!("bitpack_columns", "columns", is_for_c: false),
     module!("bitpack_ranked", "ranking", is_for_c: false),
+    module!("bitpack_wide", "wide", is_for_c: false),
     module!("bitpack_lists", "lists", is_for_c: false),
     module!("bitpacking_c", "c", is_for_c: true),
 ];

@@ -8,7 +8,7 @@ use crate::rules::{Change, applied};
 use crate::tokens::{Kind, Token, after_space, close, code_from, last_code, phrase};
 
 /// The files and folders, by module: those that are faster without the tests.
-pub const FILES: [(&str, &[&str]); 7] = [
+pub const FILES: [(&str, &[&str]); 8] = [
     ("register", &["arrays.rt", "word.rt"]),
     ("bitpacking", &["memory.rt"]),
     ("groups", &["group.rt", "groups.rt", "integers.rt", "numbers.rt", "widths.rt"]),
@@ -16,6 +16,7 @@ pub const FILES: [(&str, &[&str]); 7] = [
     ("sets", &["array.rt", "chunks.rt", "directory.rt", "few.rt", "searching.rt", "sought.rt", "window.rt"]),
     ("queries", &["combining_all.rt", "folding.rt", "in_place.rt"]),
     ("columns", &["code.rt", "column", "encoding/bodies.rt", "encoding/measuring.rt", "entries.rt", "opening"]),
+    ("wide", &["directory.rt", "encoding/order.rt", "encoding/words.rt", "spread.rt", "unpacking.rt"]),
 ];
 
 /// Methods that write what they are called of. One that is not here and does so does not compile.
