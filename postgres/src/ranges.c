@@ -48,19 +48,36 @@ Datum idset_clear(PG_FUNCTION_ARGS) { return changed(fcinfo, BITPACKING_AND_NOT)
 PG_FUNCTION_INFO_V1(idset_flip);
 Datum idset_flip(PG_FUNCTION_ARGS) { return changed(fcinfo, BITPACKING_XOR); }
 
+/* Requires that each id stays one after a number is added: the error names the first that does not. */
+static void test_shift(const bitpacking_set *set, int64 by)
+{
+    size_t position = 0;
+    uint32 id = 0;
+
+    if (by < -(int64)UINT32_MAX || by > UINT32_MAX)
+        as_id(by);
+    if (by < 0 ? bitpacking_set_get(set, 0, &id) == 1 : by > 0 && bitpacking_set_seek(set, (uint32)(UINT32_MAX - by + 1), &position, &id) == 1)
+        as_id(id + by);
+}
+
 /* The set with a number added to each id. */
 PG_FUNCTION_INFO_V1(idset_shift);
 Datum idset_shift(PG_FUNCTION_ARGS)
 {
     bitpacking_set set = opened_argument(fcinfo, 0);
-    size_t len = bitpacking_set_len(&set);
     int64 by = PG_GETARG_INT64(1);
-    uint32 *ids = new_ids(len);
+    size_t items = bitpacking_set_shift_room(&set), room = set.bytes_len / 4 * 5 + 16;
+    uint32 *work = new_ids(items);
+    struct varlena *value = NULL;
+    ptrdiff_t size = BITPACKING_SHORT;
 
-    bitpacking_set_unpack(&set, ids, len);
-    if (len > 0 && (by < -(int64)UINT32_MAX || by > UINT32_MAX))
-        as_id(by);
-    for (size_t i = 0; i < len; i++)
-        ids[i] = as_id(ids[i] + by);
-    PG_RETURN_POINTER(packed(ids, len));
+    if (bitpacking_set_len(&set) > 0)
+        test_shift(&set, by);
+    for (; size == BITPACKING_SHORT; room *= 2) {
+        if (value)
+            pfree(value);
+        value = palloc_extended(VARHDRSZ + room, MCXT_ALLOC_HUGE);
+        size = bitpacking_set_shift(&set, by, work, items, (uint8_t *)VARDATA(value), room);
+    }
+    PG_RETURN_POINTER(ended(value, (size_t)size));
 }

@@ -42,6 +42,24 @@ def test_bitmaps(ids, as_runs):
     assert packed == IdSet(ids) == IdSet.from_roaring(packed.to_roaring())
 
 
+@given(
+    arrays(9000), st.one_of(st.integers(-(2**34), 2**34), st.integers(-(2**17), 2**17).map(lambda it: it << 16), st.just(10**30))
+)
+def test_moved(ids, by):
+    moved = [it + by for it in ids.tolist() if 0 <= it + by <= MOST]
+    assert IdSet(ids).shift(by) == IdSet(moved)
+
+
+@given(arrays(9000), st.integers(-9, 2**33), st.integers(-9, 2**33))
+def test_described_and_counted(ids, low, high):
+    packed = IdSet(ids)
+    assert packed.count_between(low, high) == np.count_nonzero((ids >= low) & (ids <= high))
+    like = packed.describe()
+    assert (like.ids, like.bytes, like.chunks) == (len(ids), packed.nbytes, like.numbers + like.blocks + like.runs)
+    data = packed.tobytes() + b"\x05"
+    assert IdSet.front_len(data) == IdSet.front_len(bytearray(data)) == packed.nbytes and IdSet.front_len(data[: packed.nbytes - 1]) == 0
+
+
 def test_bitmaps_of_each_kind():
     """A set may have many more bytes than the bitmap. Memory is copied if it is not constant."""
     ids = np.flatnonzero(np.arange(1_000_000) % 1000 < 500)
@@ -472,3 +490,19 @@ def test_represented():
     packed = IdSet([7, 9, 10, 300])
     assert repr(packed) == "<IdSet of 4 ids in 7 bytes: [7, 9, 10, 300]>" and repr(IdSet(range(100))).endswith("[0, 1, 2, 3, 4, 5, ..]>")
     assert packed.tobytes().hex() == "84070901008404" and IdSet().tobytes().hex() == "80"  # of docs/FORMAT.md
+
+
+def test_a_folder_of_bitmaps(tmp_path):
+    """Files of bitmaps become sets, which are asked, changed and written back."""
+    before = {f"{n}.roaring": np.unique(RANDOM.integers(0, 2 ** (17 + 3 * n), 5000, "u4")) for n in range(5)}
+    for name, ids in before.items():
+        (tmp_path / name).write_bytes(bitmap(ids, name == "0.roaring"))
+    sets = {path.name: IdSet.from_roaring(path.read_bytes()) for path in tmp_path.iterdir()}
+    assert {name: (len(it), it.rank(1000), it.count_between(5, 70_000)) for name, it in sets.items()} == {
+        name: (len(ids), np.count_nonzero(ids < 1000), np.count_nonzero((ids >= 5) & (ids <= 70_000))) for name, ids in before.items()
+    }
+    for name, it in sets.items():
+        (tmp_path / name).write_bytes((it.shift(65_536) - range(200_000) | [7]).to_roaring())
+    for path in tmp_path.iterdir():
+        changed = before[path.name].astype("i8") + 65_536
+        assert list(IdSet.from_roaring(path.read_bytes())) == [7, *changed[(changed >= 200_000) & (changed <= MOST)].tolist()]

@@ -22,6 +22,8 @@ static const struct {
     {"idset_rank", 2, idset_rank, NULL, 0},
     {"idset_seek", 2, idset_seek, NULL, 0},
     {"idset_range", 3, idset_range, NULL, 0},
+    {"idset_describe", 1, idset_describe, NULL, 0},
+    {"idset_shift", 2, idset_shift, NULL, 0},
     {"idset_add", 2, idset_add, NULL, 0},
     {"idset_remove", 2, idset_remove, NULL, 0},
     {"idset_intersect", -1, idset_combine, NULL, BITPACKING_AND},

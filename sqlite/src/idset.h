@@ -69,7 +69,7 @@ ptrdiff_t joined(uint32_t operation, const bitpacking_set *views, size_t views_l
 
 /* The functions of SQL. The aggregates have two each. */
 scalar idset_make, idset_from_roaring, idset_to_roaring, idset_len, idset_min, idset_max, idset_contains, idset_rank, idset_seek, idset_range;
-scalar idset_add, idset_remove, idset_combine, idset_combine_len, idset_gather, idset_collect;
+scalar idset_describe, idset_shift, idset_add, idset_remove, idset_combine, idset_combine_len, idset_gather, idset_collect;
 void idset_gathered(sqlite3_context *context);
 void idset_collected(sqlite3_context *context);
 extern const sqlite3_module idset_each;

@@ -193,6 +193,43 @@ void idset_from_roaring(sqlite3_context *context, int count, sqlite3_value **val
         refuse(context, "argument 1 is not a bitmap of Roaring: %s", why_of(size, room));
 }
 
+/* Adds a number to each id of a set, in memory of its own. Returns how many bytes the set takes. */
+static ptrdiff_t shifted(const bitpacking_set *set, int64_t by, uint8_t **bytes)
+{
+    size_t items = bitpacking_set_shift_room(set), room = set->bytes_len / 4 * 5 + 16;
+    uint32_t *work = new_ids(items);
+    ptrdiff_t size = work ? BITPACKING_SHORT : NO_MEMORY;
+
+    for (*bytes = NULL; size == BITPACKING_SHORT; room *= 2) {
+        sqlite3_free(*bytes);
+        if (!(*bytes = sqlite3_malloc64(room)))
+            size = NO_MEMORY;
+        else
+            size = bitpacking_set_shift(set, by, work, items, *bytes, room);
+    }
+    sqlite3_free(work);
+    if (size >= 0)
+        *bytes = shortened(*bytes, (size_t)size);
+    return size;
+}
+
+/* The set with a number added to each id, without ids that leave their range. */
+void idset_shift(sqlite3_context *context, int count, sqlite3_value **values)
+{
+    bitpacking_set set = BITPACKING_SET_EMPTY;
+    sqlite3_int64 by;
+    uint8_t *bytes;
+    ptrdiff_t size;
+
+    if (has_null(count, values) || !opened(context, values, 0, &set) || !integer_of(context, values, 1, &by))
+        return;
+    size = shifted(&set, by, &bytes);
+    if (size < 0)
+        refuse_fault(context, size);
+    else
+        sqlite3_result_blob64(context, bytes, (size_t)size, sqlite3_free);
+}
+
 /* The ids of a set as a bitmap. */
 void idset_to_roaring(sqlite3_context *context, int count, sqlite3_value **values)
 {

@@ -81,6 +81,24 @@ void idset_seek(sqlite3_context *context, int count, sqlite3_value **values)
         result_at(context, &it.set, rank_of(&it.set, it.integers[0]));
 }
 
+/* What a set is like, as a JSON object. */
+void idset_describe(sqlite3_context *context, int count, sqlite3_value **values)
+{
+    bitpacking_set_description like;
+    arguments it = {0};
+    char *text;
+
+    if (!are_there(context, count, values, &it))
+        return;
+    bitpacking_set_describe(&it.set, &like);
+    text = sqlite3_mprintf("{\"ids\":%lld,\"bytes\":%lld,\"chunks\":%lld,\"numbers\":%lld,\"blocks\":%lld,\"runs\":%lld}", (long long)like.ids,
+                           (long long)like.bytes, (long long)like.chunks, (long long)like.numbers, (long long)like.blocks, (long long)like.runs);
+    if (text)
+        sqlite3_result_text(context, text, -1, sqlite3_free);
+    else
+        sqlite3_result_error_nomem(context);
+}
+
 /* The set of the ids from one integer to another, both included. */
 void idset_range(sqlite3_context *context, int count, sqlite3_value **values)
 {

@@ -21,12 +21,16 @@ SETS = {
     "idset_xor(a, b)": lambda a, b, c, x, y: a ^ b,
     "idset_xor(a, b, c)": lambda a, b, c, x, y: a ^ b ^ c,
     "idset_range(a, :x, :y)": lambda a, b, c, x, y: {id for id in a if x <= id <= y},
+    "idset_shift(a, :x)": lambda a, b, c, x, y: {id + x for id in a if 0 <= id + x < 2**32},
+    "idset_shift(a, -65536)": lambda a, b, c, x, y: {id - 65_536 for id in a if id >= 65_536},
+    "idset_shift(a, 4000000000)": lambda a, b, c, x, y: {id + 4_000_000_000 for id in a if id + 4_000_000_000 < 2**32},
     "idset_add(a, 70)": lambda a, b, c, x, y: a | {70},
     "idset_add(a, 4294967295)": lambda a, b, c, x, y: a | {2**32 - 1},
     "idset_remove(a, :x)": lambda a, b, c, x, y: a - {x},
 }
 NUMBERS = {
     "idset_len(a)": lambda a, b, c, x, y: len(a),
+    "idset_describe(a) ->> 'ids'": lambda a, b, c, x, y: len(a),
     "idset_min(a)": lambda a, b, c, x, y: min(a, default=None),
     "idset_max(a)": lambda a, b, c, x, y: max(a, default=None),
     "idset_contains(a, :x)": lambda a, b, c, x, y: int(x in a),

@@ -121,7 +121,7 @@ def test_numbers_as_texts(db):
 def test_flags(db):
     """All functions are deterministic, so that an index may have them, and innocuous, so that a schema may."""
     rows = db.execute("SELECT DISTINCT name, flags FROM pragma_function_list WHERE name LIKE 'idset%'").fetchall()
-    assert len(rows) == 23 and all(flags & 0x800 and flags & 0x200000 for _, flags in rows)
+    assert len(rows) == 25 and all(flags & 0x800 and flags & 0x200000 for _, flags in rows)
     db.execute("PRAGMA trusted_schema = OFF")
     db.execute("CREATE TABLE tags (ids BLOB CHECK (idset(ids) IS ids), many INT AS (idset_len(ids)))")
     db.execute("CREATE INDEX least ON tags (idset_min(ids))")

@@ -115,3 +115,16 @@ def test_statements_that_end_early(db):
     assert cursor.fetchone() == (0,)
     cursor.close()
     assert value(db, "SELECT idset_len(idset(5))") == 1
+
+
+def test_bitmaps_of_roaring(db):
+    """Bitmaps become sets, which are asked, changed and written back. These are {3, 7, 65536}, and 0 to 9 as a run, as docs/ROARING.md lays them."""
+    db.execute("CREATE TABLE bitmaps (n INTEGER PRIMARY KEY, ids BLOB)")
+    texts = ["3A300000020000000000010001000000180000001C000000030007000000", "3B3000000100000900010000000900"]
+    db.executemany("INSERT INTO bitmaps (ids) VALUES (?)", [(bytes.fromhex(it),) for it in texts])
+    db.execute("UPDATE bitmaps SET ids = idset_from_roaring(ids)")
+    assert db.execute("SELECT idset_len(ids), idset_rank(ids, 7) FROM bitmaps").fetchall() == [(3, 1), (10, 7)]
+    assert value(db, "SELECT idset_describe(ids) FROM bitmaps") == '{"ids":3,"bytes":7,"chunks":0,"numbers":0,"blocks":0,"runs":0}'
+    db.execute("UPDATE bitmaps SET ids = idset_to_roaring(idset_shift(idset_remove(idset_add(ids, 8), 65536), -1))")
+    changed = [it.hex().upper() for it, in db.execute("SELECT ids FROM bitmaps")]
+    assert changed == ["3A300000010000000000020010000000020006000700", "3B3000000100000800010000000800"]

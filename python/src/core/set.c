@@ -143,6 +143,56 @@ static PyObject *set_from_roaring(PyObject *m, PyObject *args)
     return (PyObject *)made;
 }
 
+/* The set with a number added to each id of a view. Room for five quarters of its bytes is usually enough. It doubles until it is. */
+static Packed *shifted(PyTypeObject *type, const Set *it, int64_t by)
+{
+    size_t len = bitpacking_set_len(&it->view), items = bitpacking_set_shift_room(&it->view), room = it->view.bytes_len / 4 * 5 + 16;
+    uint32_t *work = PyMem_Malloc(4 * items + 4);
+    uint8_t *to = NULL;
+    Packed *made = NULL;
+    ptrdiff_t size = BITPACKING_SHORT;
+
+    for (; work && size == BITPACKING_SHORT; room *= 2) {
+        PyMem_Free(to);
+        if (!(to = PyMem_Malloc(room)))
+            break;
+        UNLOCKED(len, size = bitpacking_set_shift(&it->view, by, work, items, to, room));
+    }
+    if (!work || !to)
+        PyErr_NoMemory();
+    else
+        made = set_of(type, to, (size_t)size);
+    PyMem_Free(work);
+    PyMem_Free(to);
+    return made;
+}
+
+/* set_shift(type, set, by): the set with a number added to each id. */
+static PyObject *set_shift(PyObject *m, PyObject *args)
+{
+    PyObject *type, *it;
+    long long by;
+
+    (void)m;
+    if (!PyArg_ParseTuple(args, "OO!L", &type, Set_type, &it, &by) || !subtype_of(Set_type, type))
+        return NULL;
+    return (PyObject *)shifted((PyTypeObject *)type, (Set *)it, by);
+}
+
+/* set_front_len(data): the length of the set at the front of the data, or 0. Nothing else writes the data. */
+static PyObject *set_front_len(PyObject *m, PyObject *data)
+{
+    Py_buffer in;
+    size_t len;
+
+    (void)m;
+    if (PyObject_GetBuffer(data, &in, PyBUF_SIMPLE) < 0)
+        return NULL;
+    len = bitpacking_set_front_len(in.buf, (size_t)in.len);
+    PyBuffer_Release(&in);
+    return PyLong_FromSize_t(len);
+}
+
 /* The set of the ids of a view and of these after them. */
 static Packed *appended(PyTypeObject *type, const bitpacking_set *view, const uint32_t *ids, size_t len)
 {
@@ -201,6 +251,8 @@ PyMethodDef set_functions[] = {
     {"set_open_many", set_open_many, METH_VARARGS, SIGNED("set_open_many(type, data, bounds, /)", "Sets.")},
     {"set_range", set_range, METH_VARARGS, SIGNED("set_range(type, first, end, /)", "The set of the ids of a range.")},
     {"set_from_roaring", set_from_roaring, METH_VARARGS, SIGNED("set_from_roaring(type, data, /)", "The set of a bitmap.")},
+    {"set_shift", set_shift, METH_VARARGS, SIGNED("set_shift(type, set, by, /)", "A set.")},
+    {"set_front_len", set_front_len, METH_O, SIGNED("set_front_len(data, /)", "The length of the set at the front, or 0.")},
     {"set_pack", set_pack, METH_VARARGS, SIGNED("set_pack(type, ids, /)", "A set, or None if the ids do not increase.")},
     {"set_append", set_append, METH_VARARGS, SIGNED("set_append(type, set, ids, /)", "A set.")},
     {NULL, NULL, 0, NULL},

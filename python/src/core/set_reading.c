@@ -292,6 +292,27 @@ static PyObject *Set_to_roaring(PyObject *self, PyObject *none)
     return made;
 }
 
+/* _count_between(low, high): how many ids are from low to high, both included. */
+static PyObject *Set_count_between(PyObject *self, PyObject *args)
+{
+    unsigned int low, high;
+
+    if (!PyArg_ParseTuple(args, "II", &low, &high))
+        return NULL;
+    return PyLong_FromSize_t(bitpacking_set_count_between(view_of(self), low, high));
+}
+
+/* _describe(): how many ids, bytes and chunks, and how many bodies of each form. */
+static PyObject *Set_describe(PyObject *self, PyObject *none)
+{
+    bitpacking_set_description it;
+
+    (void)none;
+    UNLOCKED(Set_length(self), bitpacking_set_describe(view_of(self), &it));
+    return Py_BuildValue("KKKKKK", (unsigned long long)it.ids, (unsigned long long)it.bytes, (unsigned long long)it.chunks,
+                         (unsigned long long)it.numbers, (unsigned long long)it.blocks, (unsigned long long)it.runs);
+}
+
 static PyObject *Set_is_disjoint(PyObject *self, PyObject *other)
 {
     int answer;
@@ -313,6 +334,8 @@ PyMethodDef Set_methods[] = {
     {"_mask", Set_mask, METH_O, SIGNED("_mask($self, count, /)", "As many bools, which are true at the ids.")},
     {"_remove", Set_remove, METH_O, SIGNED("_remove($self, ids, /)", "Keeps the ids that the set lacks; returns how many.")},
     {"_to_roaring", Set_to_roaring, METH_NOARGS, SIGNED("_to_roaring($self, /)", "The bitmap of the ids.")},
+    {"_count_between", Set_count_between, METH_VARARGS, SIGNED("_count_between($self, low, high, /)", "How many ids are from low to high, both included.")},
+    {"_describe", Set_describe, METH_NOARGS, SIGNED("_describe($self, /)", "What the set is like, as six numbers.")},
     {"_is_disjoint", Set_is_disjoint, METH_O, SIGNED("_is_disjoint($self, other, /)", "Whether no id is in both sets.")},
     {"_read", Set_read, METH_O, SIGNED("_read($self, out, /)", "Fills out with ids; returns how many.")},
     {NULL, NULL, 0, NULL},

@@ -5,7 +5,7 @@ from __future__ import annotations
 import hashlib
 import operator
 import pickle
-from typing import Any, Iterable, Iterator, List, Optional, Sequence, SupportsIndex, Tuple, Union
+from typing import Any, Iterable, Iterator, List, NamedTuple, Optional, Sequence, SupportsIndex, Tuple, Union
 
 import numpy as np
 import numpy.typing as npt
@@ -18,6 +18,18 @@ INTERSECT, UNITE, SUBTRACT, XOR = range(4)
 _FEW, _MOST_GROUPS = 4096, 1 << 24
 _READ = [np.dtype(it) for it in ("=u4", "=i8", "=u8")]
 Mask = Iterable[Union[bool, np.bool_]]
+
+
+class Description(NamedTuple):
+    """What a set is like: how many ids, bytes and chunks it has, and how many chunks have a body of numbers, of blocks, and of runs. Only a set in
+    chunks has chunks."""
+
+    ids: int
+    bytes: int
+    chunks: int
+    numbers: int
+    blocks: int
+    runs: int
 
 
 class IdSet(_core.Set):
@@ -75,6 +87,12 @@ class IdSet(_core.Set):
         """
         return waiting.run(len(self), self._to_roaring)
 
+    @staticmethod
+    def front_len(data: Bytes) -> int:
+        """The length in bytes of the set at the front of a buffer, with any bytes after it. It is 0 if what says the length has a fault, or if the
+        bytes end before the set does. It tests no more: `open` these bytes then."""
+        return _core.set_front_len(constant(data))
+
     @classmethod
     def open_many(cls, data: Bytes, bounds: Integers) -> List[IdSet]:
         """The sets at data[bounds[i]:bounds[i + 1]], which all share the one buffer. Error, with the number of the set."""
@@ -127,6 +145,15 @@ class IdSet(_core.Set):
             raise Error("More than 268,435,456 values.", "TooLong")
         parts = [IdSet(range(at, min(at + MOST, end))) - self for at in range(0, end, MOST)]
         return joined(UNITE, parts)
+
+    def shift(self, by: SupportsIndex) -> IdSet:
+        """The set that has `by` added to each id; it may be below 0. Ids that leave the range from 0 to 4294967295 are left out.
+
+        >>> list(IdSet([1, 4, 4294967295]).shift(2))
+        [3, 6]
+        """
+        far = 1 << 32
+        return waiting.run(len(self), _core.set_shift, IdSet, self, max(-far, min(operator.index(by), far)))
 
     def __and__(self, other: Integers) -> IdSet:
         """The ids of both."""
@@ -242,7 +269,16 @@ class IdSet(_core.Set):
 
     def count_between(self, low: SupportsIndex, high: SupportsIndex) -> int:
         """How many ids are from low to high, both included."""
-        return max(0, self.rank(operator.index(high) + 1) - self.rank(operator.index(low)))
+        first, last = max(operator.index(low), 0), min(operator.index(high), (1 << 32) - 1)
+        return self._count_between(first, last) if first <= last else 0
+
+    def describe(self) -> Description:
+        """What the set is like.
+
+        >>> IdSet(range(200)).describe()
+        Description(ids=200, bytes=15, chunks=1, numbers=0, blocks=0, runs=1)
+        """
+        return Description(*self._describe())
 
     def gather(self, positions: Integers) -> npt.NDArray[np.uint32]:
         """The ids at positions in any order, as an array; those below 0 count from the end. IndexError if one is not in the set."""
