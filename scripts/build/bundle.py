@@ -13,7 +13,7 @@ from common import ROOT, called, missing, run, version
 import archives
 
 PAGES = ["LICENSE", "README.md", "CHANGELOG.md", "CONTRIBUTING.md", "docs/*.md", "docs/*.svg", "crates/*/README.md", "rust/*.md"]
-FILES = [*PAGES, "include/*.h*", "c/symbols.c", "vectors/*.tsv", "vectors/decoders.py", "examples/*.c*"]
+FILES = [*PAGES, "include/*.h*", "c/symbols.c", "vectors/*.tsv", "vectors/*decoders.py", "examples/*.c*"]
 FILES += [*(f"examples/{it}/**/*.*" for it in ("search", "numbers", "web")), "examples/dask/*.*"]
 FILES += ["Cargo.toml", "Cargo.lock", "crates/*/src/**/*.rt", "rust/c/*.*"]
 FILES += [f"rust/{it}/**/*.rs" for it in ("src", "translate/src", "examples", "vectors")]

@@ -1,6 +1,6 @@
 #!/usr/bin/env python3
 """Compiles and runs C programs over the archive for all levels of the processor and that of each level: those of examples/, whose output is
-worked by hand, calls.c, ranking.c and pages.c, id_sets.c, bitmaps.c and columns.c over the tables of vectors/, cursors.c and cases.c, random cases. They are
+worked by hand, calls.c, ranking.c and pages.c, id_sets.c, wide_sets.c, bitmaps.c and columns.c over the tables of vectors/, cursors.c and cases.c, random cases. They are
 C99 with every warning an error, run with little stack, and once more with the address sanitizer. calls.c is also C++11 and C++17. In qemu all run
 on aarch64, those that read no table on an x86-64 of each level, and three over the Rust crate on aarch64. The header has no warning of gcc or
 clang, from C99 to C23 and from C++11 to C++20, for 64 and 32 bits; bitpacking.hpp has none from C++17 to C++23, and runs the example and sets.cpp.
@@ -29,6 +29,7 @@ CROSS, QEMU = "aarch64-linux-gnu-gcc", "qemu-aarch64-static"
 CALLS = "scripts/test/calls.c"
 ID_SETS = "scripts/test/id_sets.c"
 BITMAPS = "scripts/test/bitmaps.c"
+WIDE_SETS = "scripts/test/wide_sets.c"
 COLUMN_TABLES = "scripts/test/columns.c"
 CURSORS = "scripts/test/cursors.c"
 RANKING = "scripts/test/ranking.c"
@@ -81,6 +82,7 @@ PROGRAMS = {
     # Each row of the tables that it is given.
     ID_SETS: "563 sets, 3031 refusals, 189 pairs\n",
     BITMAPS: "165 bitmaps, 614 refusals\n",
+    WIDE_SETS: "524 wide sets, 2773 refusals\n",
     COLUMN_TABLES: "727 columns, 2605 refusals\n",
     CURSORS: "240 sets\n",
     RANKING: "all calls\n",
@@ -103,6 +105,7 @@ Bytes are missing.
 VECTORS = {
     ID_SETS: ["id_sets", "refused_id_sets", "combined_id_sets"],
     BITMAPS: ["bitmaps", "refused_bitmaps"],
+    WIDE_SETS: ["wide_sets", "refused_wide_sets"],
     COLUMN_TABLES: ["columns", "refused_columns"],
 }
 

@@ -378,19 +378,43 @@ static void describes(size_t form, const bitpacking_set *set)
     expect(it.blocks == forms[form].blocks && it.runs == forms[form].runs, "other bodies are described");
 }
 
+/* The set with a number added to each id, which needs as much room as its bytes. */
+static void shifts(const bitpacking_set *set, const uint32_t *ids, size_t len, int64_t by)
+{
+    const size_t needed = bitpacking_set_shift_room(set);
+    uint32_t *work = malloc(4 * needed + 4);
+    ptrdiff_t wanted;
+    size_t i, stay = 0;
+
+    expect(work && needed <= 4 * len, "too much work space for a shift");
+    for (i = 0; i < len; i++)
+        if (by >= -(int64_t)ids[i] && by <= (int64_t)(UINT32_MAX - ids[i]))
+            right[stay++] = (uint32_t)(ids[i] + by);
+    wanted = bitpacking_set_pack(right, stay, answer_bytes, 2 * ROOM, NULL);
+    expect(bitpacking_set_shift(set, by, work, needed, packed_set, (size_t)wanted) == wanted, "another size is shifted");
+    expect(memcmp(packed_set, answer_bytes, (size_t)wanted) == 0, "other ids are shifted");
+    expect(bitpacking_set_shift(set, by, work, needed, packed_set, (size_t)wanted - 1) == BITPACKING_SHORT, "a byte too few for a shift");
+    if (needed > 0)
+        expect(bitpacking_set_shift(set, by, work, needed - 1, packed_set, 2 * ROOM) == BITPACKING_SHORT, "too little space for a shift");
+    free(work);
+}
+
 /* Each operation on each two forms. Another number is no operation, whatever room there is, and nothing is written. */
 static void pairs_of_forms(void)
 {
     bitpacking_set views[] = {BITPACKING_SET_EMPTY, BITPACKING_SET_EMPTY};
     const size_t len = sizeof forms / sizeof *forms;
     uint8_t byte = 0xA5;
+    const int64_t by[] = {0, 1, -1, 65536, -65536, 70000, -100, UINT32_MAX, INT64_MAX, INT64_MIN};
     uint32_t item = 77;
-    size_t i, j;
+    size_t i, j, shift;
 
     for (i = 0; i < len; i++)
         for (j = 0; j < len; j++) {
             views[0] = opened(values, count = put_form(i, values), first_bytes);
             describes(i, &views[0]);
+            for (shift = 0; j == 0 && shift < sizeof by / sizeof *by; shift++)
+                shifts(&views[0], values, count, by[shift]);
             views[1] = opened(others, others_len = put_form(j, others), other_bytes);
             gives_each(&views[0], values, count, &views[1], others, others_len);
         }

@@ -2,11 +2,13 @@
 """Reads what CRoaring writes, and damaged texts of it, by `IdSetBuf::from_roaring` and by the decoders of vectors/, and compares these: random sets, as
 CRoaring makes and combines them, optimized, shrunk or neither. So are the files that the library in Go has for its tests. What `to_roaring` and
 the model of vectors/ write has to be what CRoaring writes of the same ids. It needs libroaring.so.0 (libroaring0 of Debian), these files and cargo, and
-is left out without them. `--sets` and a number is how many sets there are, else 300.
+is left out without them. `--sets` and a number is how many sets there are, else 300; `--jobs` and a number how many processes test them, else 1.
 The last line is 'N passed, M failed'.
 """
+import array
+import concurrent.futures
 import ctypes
-import ctypes.util
+import functools
 import os
 import random
 import sys
@@ -19,6 +21,8 @@ from common import ROOT, reported, run, source, words
 OUT = f"{ROOT}/out/roaring"
 LIBRARY, FILES = "libroaring.so.0", "/usr/share/gocode/src/github.com/RoaringBitmap/roaring/testdata"
 KEYS = [range(5), range(65_530, 65_536), range(65_536)]
+# How many sets have one seed and are in memory at once.
+BATCH = 100
 RANGE, BITMAP = [ctypes.c_uint64, ctypes.c_uint64], ctypes.c_void_p
 # By the name of a function of CRoaring: what it returns, and what it is given.
 CALLS = {
@@ -58,12 +62,13 @@ class Roaring:
         return getattr(self.library, f"roaring_bitmap_{name}")(*given)
 
     def of(self, ids):
-        return self.call("of_ptr", len(ids), (ctypes.c_uint32 * max(1, len(ids)))(*ids))
+        numbers = array.array("I", ids)
+        return self.call("of_ptr", len(ids), numbers.buffer_info()[0])
 
     def ids(self, bitmap):
-        found = (ctypes.c_uint32 * max(1, self.call("get_cardinality", bitmap)))()
-        self.call("to_uint32_array", bitmap, found)
-        return [*found[: self.call("get_cardinality", bitmap)]]
+        found = array.array("I", bytes(4 * self.call("get_cardinality", bitmap)))
+        self.call("to_uint32_array", bitmap, found.buffer_info()[0])
+        return [*found]
 
     def text(self, bitmap):
         found = ctypes.create_string_buffer(self.call("portable_size_in_bytes", bitmap) + 1)
@@ -89,15 +94,17 @@ class Roaring:
     def numbers(self):
         """The numbers of a container: few, about 4,096, runs, many, the last ones, one run, or in steps."""
         draw = self.random
-        kind, first = draw.randrange(7), draw.randrange(65_000)
+        kind, first = draw.choice([0, 0, 1, 2, 2, 3, 4, 5, 6]), draw.randrange(65_000)
         if kind < 2:
             return draw.sample(range(65_536), draw.choice([[1, 5, 40], [200, 4095, 4096, 4097]][kind]))
         if kind == 2:
             begins = [draw.randrange(65_536) for _ in range(draw.randrange(1, 50))]
             return {number for begin in begins for number in range(begin, min(65_536, begin + draw.randrange(1, 2000)))}
         if kind == 3:
-            share = draw.choice([0.1, 0.3, 0.9])
-            return [number for number in range(65_536) if draw.random() < share]
+            # A half of the numbers, a quarter, or seven eighths.
+            bits = draw.getrandbits(65_536)
+            bits = draw.choice([bits, bits & draw.getrandbits(65_536), bits | draw.getrandbits(65_536) | draw.getrandbits(65_536)])
+            return [number for number, bit in enumerate(f"{bits:065536b}") if bit == "1"]
         return [range(65_536 - draw.randrange(1, 30), 65_536), range(first, first + 500), range(first % 20, 65_536, draw.randrange(2, 40))][
             kind - 4
         ]
@@ -141,44 +148,75 @@ def answer_of(call, number_of, *given):
         return f"fault {number_of(f'{name}({details})' if details else name)}"
 
 
-def checks(count):
+def built():
+    """The program that reads bitmaps."""
+    by_cargo.cargo("build", OUT, "--profile", "quick", "--package", "bitpacking", "--features", "__source", "--example", "bitmaps")
+    return f"{OUT}/quick/examples/bitmaps"
+
+
+def decoders():
+    """What the files of vectors/ define, and the number of a fault."""
     names = {}
     exec("\n".join(source(f"vectors/{name}.py") for name in ["decoders", "model", "set_model"]), names)
+    # A damaged text has most containers of its original.
+    for name in ["roaring_numbers", "body_numbers"]:
+        names[name] = functools.lru_cache(64)(names[name])
     sys.path.insert(1, f"{ROOT}/vectors")
     from refusals import number_of
 
-    by_cargo.cargo("build", OUT, "--profile", "quick", "--package", "bitpacking", "--features", "__source", "--example", "bitmaps")
-    roaring, given = Roaring(1), []
+    return names["decode_roaring"], names["decode_set"], names["encode_roaring"], number_of
+
+
+def batch_checks(program, seed, count):
+    decode_roaring, decode_set, encode_roaring, number_of = decoders()
+    roaring, given = Roaring(seed), []
     for index in range(count):
         made = roaring.bitmap()
         ids, text = roaring.ids(made), roaring.text(made)
         roaring.call("free", made)
         given += [(text, ids), *((roaring.damaged(text), None) for _ in range(4))]
-        yield f"what is written of set {index}", None if names["encode_roaring"](ids) == roaring.optimized(ids) else text[:80].hex()
-    given += roaring.files()
+        yield f"what is written of set {index} of {seed}", None if encode_roaring(ids) == roaring.optimized(ids) else text[:80].hex()
+    given += roaring.files() if seed == 1 else []
+    right = [answer_of(decode_roaring, number_of, text) for text, _ in given]
     lines = "".join(f"{text.hex()}\n" for text, _ in given)
-    for copy in ["", "1"]:
-        env = dict(os.environ, **({"BITPACKING_FIRST_COPY": "1"} if copy else {}))
-        found = run(f"{OUT}/quick/examples/bitmaps", input=lines, env=env).stdout.splitlines()
-        yield "how many bitmaps are read", None if len(found) == len(given) else len(found)
-        for (text, ids), line in zip(given, found):
-            right = answer_of(names["decode_roaring"], number_of, text)
-            if line.startswith("fault"):
-                read = line
-            else:
-                found_bytes, written = map(bytes.fromhex, line.split())
-                read = answer_of(names["decode_set"], number_of, found_bytes)
-                yield f"what is written of bitmap {text[:40].hex()}", None if written == roaring.optimized(read) else written[:80].hex()
-            wanted = ids in (None, right) or (ids == "a fault" and line.startswith("fault"))
-            yield f"bitmap {text[:40].hex()} of {len(text)} bytes", None if read == right and wanted else f"{str(read)[:60]}, and not {str(right)[:60]}"
+    found = run(program, input=lines).stdout.splitlines()
+    yield "how many bitmaps are read", None if len(found) == len(given) else len(found)
+    for (text, ids), right_answer, line in zip(given, right, found):
+        if line.startswith("fault"):
+            read = line
+        else:
+            found_bytes, written = map(bytes.fromhex, line.split())
+            read = answer_of(decode_set, number_of, found_bytes)
+            yield f"what is written of bitmap {text[:40].hex()}", None if written == roaring.optimized(read) else written[:80].hex()
+        wanted = ids in (None, right_answer) or (ids == "a fault" and line.startswith("fault"))
+        why = None if read == right_answer and wanted else f"{str(read)[:60]}, and not {str(right_answer)[:60]}"
+        yield f"bitmap {text[:40].hex()} of {len(text)} bytes", why
+    other = run(program, input=lines, env=dict(os.environ, BITPACKING_FIRST_COPY="1")).stdout.splitlines()
+    yield f"what the first copy of the modules reads and writes, of {seed}", None if other == found else "not the same"
+
+
+def batch(*given):
+    return [*batch_checks(*given)]
+
+
+def checks(count, jobs):
+    program = built()
+    seeds = range(1, -(-count // BATCH) + 1)
+    counts = [min(BATCH, count - BATCH * (seed - 1)) for seed in seeds]
+    with concurrent.futures.ProcessPoolExecutor(jobs) as pool:
+        for found in pool.map(batch, [program] * len(seeds), seeds, counts):
+            yield from found
+
+
+def number(flag, otherwise):
+    """The number after a flag."""
+    asked = words("--sets", "--jobs")
+    return int(asked[asked.index(flag) + 1]) if flag in asked else otherwise
 
 
 def main():
-    asked = words("--sets")
-    count = int(asked[asked.index("--sets") + 1]) if "--sets" in asked else 300
-    return reported(
-        "roaring.py", lambda: checks(count), "cargo", others=[*([] if library() else [LIBRARY]), *([] if os.path.isdir(FILES) else [FILES])]
-    )
+    others = [*([] if library() else [LIBRARY]), *([] if os.path.isdir(FILES) else [FILES])]
+    return reported("roaring.py", lambda: checks(number("--sets", 300), number("--jobs", 1)), "cargo", others=others)
 
 
 if __name__ == "__main__":

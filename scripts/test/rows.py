@@ -30,6 +30,11 @@ def spelled_ids(text):
         yield from range(int(first), int(last or first) + 1, int(step or 1))
 
 
+def spelled_values(text):
+    """The values of wide_columns.tsv, each before a comma. A missing one is None."""
+    return [int(value) if value else None for value in spelled(text).split(",")[:-1]] if text != "-" else []
+
+
 def spelled(field):
     """A field of lines.tsv: `{ab*3}` is `ababab`, and `\\r` and `\\t` are a carriage return and a tab."""
     long = re.sub(r"\{([^*{}]+)\*(\d+)\}", lambda part: part[1] * int(part[2]), field)

@@ -16,14 +16,15 @@ import sys
 sys.path.insert(1, f"{sys.path[0]}/..")
 from common import ROOT, report, run, source
 from parts import drawn
-from rows import block_lines, list_lines, lines_by_hand, numbers, octets, page_lines, query_lines, spelled_ids, table
+from rows import block_lines, list_lines, lines_by_hand, numbers, octets, page_lines, query_lines, spelled_ids, spelled_values, table
 
 KINDS = ["plain", "sorted", "strict"]
 
 
 def model():
     """An implementation in Python: the decoders of docs/FORMAT.md, and the files that add writers and lines to them."""
-    return "\n".join(source(f"vectors/{name}.py") for name in ["decoders", "model", "set_model", "column_model", "line_model"])
+    files = ["decoders", "wide_decoders", "model", "set_model", "column_model", "wide_model", "wide_column_model", "line_model"]
+    return "\n".join(source(f"vectors/{name}.py") for name in files).replace("from decoders import *\n", "")
 
 
 def names_of(text):
@@ -119,17 +120,18 @@ def long_list_checks(names):
         yield f"{name}, read", answer_of(decode, lanes, text), right
 
 
-def id_set_checks(names):
-    for row in table("refused_id_sets.tsv"):
-        yield f"refused set {row['bytes'][:80]}", answer_of(names["decode_set"], octets(row["bytes"])), row["fault"]
-    for row in table("id_sets.tsv"):
+def id_set_checks(names, kind="set", file="id_sets"):
+    decode, encode = names[f"decode_{kind}"], names[f"encode_{kind}"]
+    for row in table(f"refused_{file}.tsv"):
+        yield f"refused {kind} {row['bytes'][:80]}", answer_of(decode, octets(row["bytes"])), row["fault"]
+    for row in table(f"{file}.tsv"):
         ids, text = [*spelled_ids(row["ids"])], octets(row["bytes"])
-        yield f"set {row['bytes'][:80]}", answer_of(names["decode_set"], text), ids
-        yield f"text of set {row['bytes'][:80]}", answer_of(names["encode_set"], ids), text
+        yield f"{kind} {row['bytes'][:80]}", answer_of(decode, text), ids
+        yield f"text of {kind} {row['bytes'][:80]}", answer_of(encode, ids), text
         for p in {1, len(ids) // 2, len(ids) - 1} if 1 < len(ids) < 1000 else []:  # an id is that before it, or less
             for least in {ids[p - 1], 0}:
                 wrong = [*ids[:p], least, *ids[p:]]
-                yield f"refused ids {row['bytes'][:80]}", answer_of(names["encode_set"], wrong), f"NotSorted({p})"
+                yield f"refused ids {row['bytes'][:80]}", answer_of(encode, wrong), f"NotSorted({p})"
 
 
 def bitmap_checks(names):
@@ -156,14 +158,25 @@ def column_checks(names):
                 yield f"refused values {row['bytes'][:80]}", answer_of(names["encode_column"], kind, wrong), f"NotSorted({p + 1})"
 
 
+def wide_column_checks(names):
+    for row in table("refused_wide_columns.tsv"):
+        yield f"refused wide column {row['bytes'][:80]}", answer_of(names["decode_wide_column"], octets(row["bytes"])), row["fault"]
+    for row in table("wide_columns.tsv"):
+        values, text = spelled_values(row["values"]), octets(row["bytes"])
+        yield f"wide column {row['bytes'][:80]}", answer_of(names["decode_wide_column"], text), values
+        yield f"text of wide column {row['bytes'][:80]}", answer_of(names["encode_wide_column"], values), text
+
+
 CHECKS = {
     **{
         "blocks": block_checks,
         "lists": list_checks,
         "queries": query_checks,
         "id_sets": id_set_checks,
+        "wide_sets": lambda names: id_set_checks(names, "wide_set", "wide_sets"),
         "bitmaps": bitmap_checks,
         "columns": column_checks,
+        "wide_columns": wide_column_checks,
     },
     "lines": lambda names: ((line, names["answer"](line), right) for line, right in lines_by_hand()),
     "long_lists": long_list_checks,
@@ -181,9 +194,9 @@ def rule_checks(names):
 def page_checks(names):
     """The bytes beside the faults of docs/FORMAT.md, by the decoder of their version in one lane, of sets, or of columns, and of docs/ROARING.md."""
     lists = {title: functools.partial(names[name], 1) for title, name in [("Refusals", "decode"), ("Refusals of version 2", "decode2")]}
-    decoders = [*lists.items(), ("Faults of a set", names["decode_set"]), ("Faults of a column", names["decode_column"])]
+    kinds = {"set": "set", "column": "column", "wide set": "wide_set", "wide column": "wide_column", "bitmap": "roaring"}
     pages = source("docs/FORMAT.md") + source("docs/ROARING.md")
-    for title, decode in [*decoders, ("Faults of a bitmap", names["decode_roaring"])]:
+    for title, decode in [*lists.items(), *((f"Faults of a {title}", names[f"decode_{kind}"]) for title, kind in kinds.items())]:
         shown, fault = re.split(r"\n##+ ", pages.split(f"\n### {title}\n")[1])[0], ""
         found = re.findall(r"\b([A-Z]\w+)[(,; ]|`((?:[0-9A-F]{2})+)`(?:: ([\d, ]*\d))?", shown)
         yield f"whether bytes are beside the {title}", any(text for _, text, _ in found), True
@@ -247,7 +260,7 @@ def of_python():
     """The checks of the readers in Python, with their names."""
     names = names_of(model())
     found = [it for checks in [*CHECKS.values(), rule_checks, page_checks] for it in checks(names)]
-    yield "vectors/decoders.py, model.py, set_model.py, column_model.py and line_model.py", found
+    yield "vectors/decoders.py, wide_decoders.py and the models", found
     yield "wrong implementations", mistake_checks()
 
 
