@@ -20,7 +20,7 @@ TOP = r"(?:crates|docs|examples|include|postgres|python|rust|scripts|sqlite|vect
 NAMED = re.compile(TOP + r"|(?:[\w-]+/)*[\w-]+\.(?:rt|antt|edit|py|rs|md)")
 LINK = re.compile(r"\[([^\]]*)\]\(([^)#\s]*)(?:#([^)\s]*))?\)")
 SPAN = re.compile(r"`([^`\n]+)`")
-MOST = {"README.md": 900, "all pages": 29_250}
+MOST = {"README.md": 900, "all pages": 31_150}
 
 
 @functools.cache
