@@ -1,6 +1,6 @@
 """The record of the edits that were refused as they must be, scripts/mutate/tried.txt: a sum of each edit, and of the sources of each crate all of
 whose edits were tried. scripts/mutate/unproved.py writes it; with another toolchain `--all` tries all again. An edit that is not in the record, or
-whose crate changed, is tried. One in ten of the others is, chosen by the hash of the commit."""
+whose crate changed, is tried. One in 25 of the others is, chosen by the hash of the commit."""
 
 import glob
 import hashlib
@@ -11,7 +11,7 @@ import changes
 import proving
 
 RECORD = f"{ROOT}/scripts/mutate/tried.txt"
-ONE_IN = 10
+ONE_IN = 25
 
 
 def code_of(path):

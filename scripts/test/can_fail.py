@@ -191,22 +191,22 @@ def sums_after(changed):
 
 def records():
     """Each choice of edits as a name, how many of each crate are tried, and how many have to be."""
-    sums, some, every = {"one": "1", "two": "2"}, {"one": 10, "two": 10}, {"one": 100, "two": 100}
+    sums, some, every = {"one": "1", "two": "2"}, {"one": 4, "two": 4}, {"one": 100, "two": 100}
     yield "edits of crates that did not change", tried(sums, sums), some
-    yield "edits of a crate that changed", tried(sums, sums | {"two": "3"}), {"one": 10, "two": 100}
+    yield "edits of a crate that changed", tried(sums, sums | {"two": "3"}), {"one": 4, "two": 100}
     yield "edits without a record", tried(sums, {}), every
     yield "edits without a commit", tried(sums, sums, ""), every
     edits = [Edit(f"one/it/{number}") for number in range(100)]
     one, two = ({it.path for it in record.chosen({"one": edits}, {"one": "1"}, {"one": "1"}, by)["one"]} for by in ("a hash", "another"))
     yield "edits by another commit", one != two, True
-    for path, wanted in {f"crates/{CRATE}/src/word.rt": (100, 10), "no file": (10, 10)}.items():
+    for path, wanted in {f"crates/{CRATE}/src/word.rt": (100, 4), "no file": (4, 4)}.items():
         found = tried(sums_after(path), sums_after(None))
         yield f"edits after a change of {path}", (found[CRATE], found["bitpacking"]), wanted
     paths = [
         it.path
         for it in record.chosen({"one": edits}, {"one": "1", edits[7].path: "new"}, {"one": "1", edits[7].path: "old"}, "a hash")["one"]
     ]
-    yield "an edit that changed", (paths[0], len(paths)), (edits[7].path, 11)
+    yield "an edit that changed", (paths[0], len(paths)), (edits[7].path, 5)
     with tempfile.TemporaryDirectory(prefix="record-") as top:
         texts_of = ["// a comment\nfn it() {}\n", "fn it() {}\n", "fn it() { 1 }\n"]
         sources = [os.path.join(top, f"{k}.rt") for k in range(3)]

@@ -50,7 +50,7 @@ fn ranges_of_ids() {
 #[test]
 fn put_in_and_taken_out() {
     let mut numbers = Numbers(22);
-    for round in 0..10 * FORMS {
+    for round in 0..4 * FORMS {
         let mut model = some_ids(&mut numbers, round % FORMS);
         let mut set = packed(&model);
         for _ in 0..4 {
@@ -81,8 +81,8 @@ fn put_in_and_taken_out() {
             assert_eq!(set.as_bytes(), packed(&model).as_bytes());
         }
         let end = u64::from(limits(&mut numbers).1);
-        let lacked: Model = (0..end as u32).filter(|id| !model.contains(id)).take(1 << 22).collect();
         if end < 1 << 22 {
+            let lacked: Model = (0..end as u32).filter(|id| !model.contains(id)).collect();
             assert_eq!(set.complement(end).unwrap().unpack(), listed(&lacked));
         }
         set.remove_range(..).unwrap();
