@@ -4,29 +4,21 @@
 /* More bytes than a chunk of a set has. */
 enum { CHUNK = 8500 };
 
+static ptrdiff_t write_joined(const source *from, uint32_t *work, size_t items, uint8_t *bytes, size_t room)
+{
+    return bitpacking_set_combine((uint32_t)from->number, from->data, from->len, work, items, bytes, room);
+}
+
 /* Combines sets into one, in memory of its own. Returns how many bytes it takes. Room for the bytes of all sets, and of a chunk more, is usually
- * enough. It doubles until it is. */
+ * enough. */
 ptrdiff_t joined(uint32_t operation, const bitpacking_set *views, size_t views_len, uint8_t **bytes)
 {
-    size_t items = bitpacking_set_combine_room(views, views_len), room = CHUNK, i;
-    uint32_t *work = new_ids(items);
-    ptrdiff_t size = work ? BITPACKING_SHORT : NO_MEMORY;
+    const source from = {views, views_len, operation};
+    size_t room = CHUNK, i;
 
     for (i = 0; i < views_len; i++)
         room += views[i].bytes_len;
-    for (*bytes = NULL; size == BITPACKING_SHORT; room *= 2) {
-        sqlite3_free(*bytes);
-        if (!(*bytes = sqlite3_malloc64(room)))
-            size = NO_MEMORY;
-        else
-            size = bitpacking_set_combine(operation, views, views_len, work, items, *bytes, room);
-    }
-    sqlite3_free(work);
-    if (size < 0)
-        sqlite3_free(*bytes);
-    else
-        *bytes = shortened(*bytes, (size_t)size);
-    return size;
+    return written(write_joined, &from, bitpacking_set_combine_room(views, views_len), room, bytes);
 }
 
 /* How many ids the XOR of sets has. */

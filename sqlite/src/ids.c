@@ -97,6 +97,27 @@ uint8_t *shortened(uint8_t *bytes, size_t len)
     return shorter ? shorter : bytes;
 }
 
+/* The set that a call writes, in memory of its own. Returns how many bytes it takes. Room for so many bytes is usually enough. It doubles until it is. */
+ptrdiff_t written(set_writer *call, const source *from, size_t items, size_t room, uint8_t **bytes)
+{
+    uint32_t *work = new_ids(items);
+    ptrdiff_t size = work ? BITPACKING_SHORT : NO_MEMORY;
+
+    for (*bytes = NULL; size == BITPACKING_SHORT; room *= 2) {
+        sqlite3_free(*bytes);
+        if (!(*bytes = sqlite3_malloc64(room)))
+            size = NO_MEMORY;
+        else
+            size = call(from, work, items, *bytes, room);
+    }
+    sqlite3_free(work);
+    if (size < 0)
+        sqlite3_free(*bytes);
+    else
+        *bytes = shortened(*bytes, (size_t)size);
+    return size;
+}
+
 /* Packs ids, which increase, into memory of their own. Returns how many bytes they take. */
 ptrdiff_t packed(const uint32_t *ids, size_t len, uint8_t **bytes)
 {

@@ -62,6 +62,17 @@ int make_room(gathered *it, size_t more);
 int settle(gathered *it);
 ptrdiff_t packed(const uint32_t *ids, size_t len, uint8_t **bytes);
 uint8_t *shortened(uint8_t *bytes, size_t len);
+
+/* What a set is written from: a bitmap or sets, how many bytes or sets these are, and what is added to ids or which operation combines sets. */
+typedef struct {
+    const void *data;
+    size_t len;
+    int64_t number;
+} source;
+
+/* Writes a set with work space into room, and returns its number of bytes or an error. */
+typedef ptrdiff_t set_writer(const source *from, uint32_t *work, size_t items, uint8_t *bytes, size_t room);
+ptrdiff_t written(set_writer *call, const source *from, size_t items, size_t room, uint8_t **bytes);
 void result_ids(sqlite3_context *context, const uint32_t *ids, size_t len);
 
 /* combining.c: sets of many sets. */

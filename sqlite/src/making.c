@@ -1,6 +1,9 @@
 /* Sets of numbers: idset(..) of its arguments, and the aggregate idset_pack of the numbers of rows. */
 #include "idset.h"
 
+/* Room for the bitmap of ids that are not in chunks: 127 containers of one id each take 1,278 bytes. */
+enum { FEW_ROOM = 1278 };
+
 /* A text that is read, and where. */
 typedef struct {
     const char *start, *at, *end;
@@ -147,45 +150,32 @@ void idset_make(sqlite3_context *context, int count, sqlite3_value **values)
     result_gathered(context, &it);
 }
 
-/* Makes the set of a bitmap in Roaring's portable format, in memory of its own. Returns how many bytes it takes. Room for five quarters of the
- * bitmap is usually enough. It doubles until it is. */
-static ptrdiff_t of_roaring(const uint8_t *roaring, size_t len, uint8_t **bytes)
+static ptrdiff_t write_of_roaring(const source *from, uint32_t *work, size_t items, uint8_t *bytes, size_t room)
 {
-    size_t items = bitpacking_set_from_roaring_room(roaring, len), room = len / 4 * 5 + 16;
-    uint32_t *work = new_ids(items);
-    ptrdiff_t size = work ? BITPACKING_SHORT : NO_MEMORY;
-
-    for (*bytes = NULL; size == BITPACKING_SHORT; room *= 2) {
-        sqlite3_free(*bytes);
-        if (!(*bytes = sqlite3_malloc64(room)))
-            size = NO_MEMORY;
-        else
-            size = bitpacking_set_from_roaring(roaring, len, work, items, *bytes, room);
-    }
-    sqlite3_free(work);
-    if (size < 0)
-        sqlite3_free(*bytes);
-    else
-        *bytes = shortened(*bytes, (size_t)size);
-    return size;
+    return bitpacking_set_from_roaring(from->data, from->len, work, items, bytes, room);
 }
 
 /* The set of a bitmap. */
 void idset_from_roaring(sqlite3_context *context, int count, sqlite3_value **values)
 {
     const uint8_t *roaring = sqlite3_value_blob(values[0]);
-    size_t len = (size_t)sqlite3_value_bytes(values[0]);
+    const source from = {roaring, (size_t)sqlite3_value_bytes(values[0]), 0};
     char room[WHY_ROOM];
     uint8_t *bytes;
     ptrdiff_t size;
 
     if (has_null(count, values))
         return;
-    if (sqlite3_value_type(values[0]) != SQLITE_BLOB)
+    if (sqlite3_value_type(values[0]) != SQLITE_BLOB) {
         refuse(context, "argument 1 is not a blob, and so not a bitmap");
-    else if (!roaring && len > 0)
+        return;
+    }
+    if (!roaring && from.len > 0) {
         sqlite3_result_error_nomem(context);
-    else if ((size = of_roaring(roaring, len, &bytes)) >= 0)
+        return;
+    }
+    size = written(write_of_roaring, &from, bitpacking_set_from_roaring_room(roaring, from.len), from.len / 4 * 5 + 16, &bytes);
+    if (size >= 0)
         sqlite3_result_blob64(context, bytes, (size_t)size, sqlite3_free);
     else if (size == NO_MEMORY || size == BITPACKING_TOO_LONG)
         refuse_fault(context, size);
@@ -193,59 +183,50 @@ void idset_from_roaring(sqlite3_context *context, int count, sqlite3_value **val
         refuse(context, "argument 1 is not a bitmap of Roaring: %s", why_of(size, room));
 }
 
-/* Adds a number to each id of a set, in memory of its own. Returns how many bytes the set takes. */
-static ptrdiff_t shifted(const bitpacking_set *set, int64_t by, uint8_t **bytes)
+static ptrdiff_t write_shifted(const source *from, uint32_t *work, size_t items, uint8_t *bytes, size_t room)
 {
-    size_t items = bitpacking_set_shift_room(set), room = set->bytes_len / 4 * 5 + 16;
-    uint32_t *work = new_ids(items);
-    ptrdiff_t size = work ? BITPACKING_SHORT : NO_MEMORY;
-
-    for (*bytes = NULL; size == BITPACKING_SHORT; room *= 2) {
-        sqlite3_free(*bytes);
-        if (!(*bytes = sqlite3_malloc64(room)))
-            size = NO_MEMORY;
-        else
-            size = bitpacking_set_shift(set, by, work, items, *bytes, room);
-    }
-    sqlite3_free(work);
-    if (size >= 0)
-        *bytes = shortened(*bytes, (size_t)size);
-    return size;
+    return bitpacking_set_shift(from->data, from->number, work, items, bytes, room);
 }
 
 /* The set with a number added to each id, without ids that leave their range. */
 void idset_shift(sqlite3_context *context, int count, sqlite3_value **values)
 {
     bitpacking_set set = BITPACKING_SET_EMPTY;
+    source from = {&set, 1, 0};
     sqlite3_int64 by;
     uint8_t *bytes;
     ptrdiff_t size;
 
     if (has_null(count, values) || !opened(context, values, 0, &set) || !integer_of(context, values, 1, &by))
         return;
-    size = shifted(&set, by, &bytes);
+    from.number = by;
+    size = written(write_shifted, &from, bitpacking_set_shift_room(&set), set.bytes_len / 4 * 5 + 16, &bytes);
     if (size < 0)
         refuse_fault(context, size);
     else
         sqlite3_result_blob64(context, bytes, (size_t)size, sqlite3_free);
 }
 
-/* The ids of a set as a bitmap. */
+/* The ids of a set as a bitmap. To measure it first takes half as long as to write it. Room for twice the bytes of the set, or for few ids, is usually
+ * enough. */
 void idset_to_roaring(sqlite3_context *context, int count, sqlite3_value **values)
 {
     bitpacking_set set = BITPACKING_SET_EMPTY;
-    uint8_t *bytes;
-    size_t size;
+    uint8_t *bytes = NULL;
+    size_t size, room = 0;
 
     if (has_null(count, values) || !opened(context, values, 0, &set))
         return;
-    size = bitpacking_set_roaring_size(&set);
-    if (!(bytes = sqlite3_malloc64(size))) {
-        sqlite3_result_error_nomem(context);
-        return;
+    for (size = 2 * set.bytes_len + FEW_ROOM; size > room;) {
+        room = size;
+        sqlite3_free(bytes);
+        if (!(bytes = sqlite3_malloc64(room))) {
+            sqlite3_result_error_nomem(context);
+            return;
+        }
+        size = bitpacking_set_to_roaring(&set, bytes, room);
     }
-    bitpacking_set_to_roaring(&set, bytes, size);
-    sqlite3_result_blob64(context, bytes, size, sqlite3_free);
+    sqlite3_result_blob64(context, shortened(bytes, size), size, sqlite3_free);
 }
 
 /* The state of idset_pack. */

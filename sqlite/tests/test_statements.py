@@ -2,6 +2,7 @@
 
 import os
 import random
+import struct
 import time
 
 from databases import ROWS, connected, packed, refusal, value
@@ -128,3 +129,8 @@ def test_bitmaps_of_roaring(db):
     db.execute("UPDATE bitmaps SET ids = idset_to_roaring(idset_shift(idset_remove(idset_add(ids, 8), 65536), -1))")
     changed = [it.hex().upper() for it, in db.execute("SELECT ids FROM bitmaps")]
     assert changed == ["3A300000010000000000020010000000020006000700", "3B3000000100000800010000000800"]
+    # Each of 2,000 ids in a container, which take more than twice the bytes of the set.
+    sparse, start = range(0, 140_000_000, 70_000), 8 + 8 * 2000
+    text = struct.pack("<2I", 0x303A, 2000) + b"".join(struct.pack("<2H", it >> 16, 0) for it in sparse)
+    text += struct.pack("<2000I", *range(start, start + 4000, 2)) + struct.pack("<2000H", *(it & 65_535 for it in sparse))
+    assert value(db, "SELECT idset_to_roaring(?)", packed(db, sparse)) == text
