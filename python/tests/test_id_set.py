@@ -68,6 +68,8 @@ def test_bitmaps_of_each_kind():
     for form in (text, bytearray(text), memoryview(text), np.frombuffer(text, "u1"), np.repeat(np.frombuffer(text, "u1"), 2)[::2]):
         assert IdSet.from_roaring(form) == packed
     assert IdSet.from_roaring(bitmap(np.arange(5_000_000), False)) == IdSet(range(5_000_000))
+    sparse = 70_000 * np.arange(2000)  # each in a container, which take more than twice the bytes of the set
+    assert IdSet(sparse).to_roaring() == bitmap(sparse, False)
 
     class Mine(IdSet):
         pass

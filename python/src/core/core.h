@@ -69,8 +69,21 @@ Packed *holding(PyTypeObject *type, PyObject *data, size_t from, size_t to);
 Packed *copy_of(PyTypeObject *type, const uint8_t *bytes, size_t len);
 int are_same(const Packed *one, const Packed *other);
 
+/* What a set is written from: a bitmap or sets, how many bytes or sets these are, what is added to ids or which operation combines sets, and about
+ * how many values these have. */
+typedef struct {
+    const void *data;
+    size_t len;
+    int64_t number;
+    size_t count;
+} Source;
+
+/* Writes a set with work space into room, and returns its number of bytes or an error. */
+typedef ptrdiff_t set_writer(const Source *from, uint32_t *work, size_t items, uint8_t *to, size_t room);
+
 /* set.c */
 Packed *set_of(PyTypeObject *type, const uint8_t *bytes, size_t len);
+Packed *set_written(PyTypeObject *type, set_writer *call, const Source *from, size_t items, size_t room);
 
 /* set_reading.c: the methods of a set. */
 Py_ssize_t Set_length(PyObject *self);

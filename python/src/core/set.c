@@ -102,10 +102,9 @@ static PyObject *set_range(PyObject *m, PyObject *args)
     return made;
 }
 
-/* The set of a bitmap in Roaring's portable format. Room for five quarters of its bytes is usually enough. It doubles until it is. */
-static Packed *of_roaring(PyTypeObject *type, const uint8_t *bytes, size_t len)
+/* The set that a call writes. Room for so many bytes is usually enough. It doubles until it is. */
+Packed *set_written(PyTypeObject *type, set_writer *call, const Source *from, size_t items, size_t room)
 {
-    size_t items = bitpacking_set_from_roaring_room(bytes, len), room = len / 4 * 5 + 16;
     uint32_t *work = PyMem_Malloc(4 * items + 4);
     uint8_t *to = NULL;
     Packed *made = NULL;
@@ -115,7 +114,7 @@ static Packed *of_roaring(PyTypeObject *type, const uint8_t *bytes, size_t len)
         PyMem_Free(to);
         if (!(to = PyMem_Malloc(room)))
             break;
-        UNLOCKED(len, size = bitpacking_set_from_roaring(bytes, len, work, items, to, room));
+        UNLOCKED(from->count, size = call(from, work, items, to, room));
     }
     if (!work || !to)
         PyErr_NoMemory();
@@ -128,55 +127,47 @@ static Packed *of_roaring(PyTypeObject *type, const uint8_t *bytes, size_t len)
     return made;
 }
 
+static ptrdiff_t write_of_roaring(const Source *from, uint32_t *work, size_t items, uint8_t *to, size_t room)
+{
+    return bitpacking_set_from_roaring(from->data, from->len, work, items, to, room);
+}
+
 /* set_from_roaring(type, data): the set of a bitmap. Nothing else writes the data. */
 static PyObject *set_from_roaring(PyObject *m, PyObject *args)
 {
     PyObject *type, *data;
     Packed *made;
     Py_buffer in;
+    Source from;
 
     (void)m;
     if (!PyArg_ParseTuple(args, "OO", &type, &data) || !subtype_of(Set_type, type) || PyObject_GetBuffer(data, &in, PyBUF_SIMPLE) < 0)
         return NULL;
-    made = of_roaring((PyTypeObject *)type, in.buf, (size_t)in.len);
+    from = (Source){in.buf, (size_t)in.len, 0, (size_t)in.len};
+    made = set_written((PyTypeObject *)type, write_of_roaring, &from, bitpacking_set_from_roaring_room(in.buf, from.len), from.len / 4 * 5 + 16);
     PyBuffer_Release(&in);
     return (PyObject *)made;
 }
 
-/* The set with a number added to each id of a view. Room for five quarters of its bytes is usually enough. It doubles until it is. */
-static Packed *shifted(PyTypeObject *type, const Set *it, int64_t by)
+static ptrdiff_t write_shifted(const Source *from, uint32_t *work, size_t items, uint8_t *to, size_t room)
 {
-    size_t len = bitpacking_set_len(&it->view), items = bitpacking_set_shift_room(&it->view), room = it->view.bytes_len / 4 * 5 + 16;
-    uint32_t *work = PyMem_Malloc(4 * items + 4);
-    uint8_t *to = NULL;
-    Packed *made = NULL;
-    ptrdiff_t size = BITPACKING_SHORT;
-
-    for (; work && size == BITPACKING_SHORT; room *= 2) {
-        PyMem_Free(to);
-        if (!(to = PyMem_Malloc(room)))
-            break;
-        UNLOCKED(len, size = bitpacking_set_shift(&it->view, by, work, items, to, room));
-    }
-    if (!work || !to)
-        PyErr_NoMemory();
-    else
-        made = set_of(type, to, (size_t)size);
-    PyMem_Free(work);
-    PyMem_Free(to);
-    return made;
+    return bitpacking_set_shift(from->data, from->number, work, items, to, room);
 }
 
 /* set_shift(type, set, by): the set with a number added to each id. */
 static PyObject *set_shift(PyObject *m, PyObject *args)
 {
     PyObject *type, *it;
+    const bitpacking_set *view;
     long long by;
+    Source from;
 
     (void)m;
     if (!PyArg_ParseTuple(args, "OO!L", &type, Set_type, &it, &by) || !subtype_of(Set_type, type))
         return NULL;
-    return (PyObject *)shifted((PyTypeObject *)type, (Set *)it, by);
+    view = &((Set *)it)->view;
+    from = (Source){view, 1, by, bitpacking_set_len(view)};
+    return (PyObject *)set_written((PyTypeObject *)type, write_shifted, &from, bitpacking_set_shift_room(view), view->bytes_len / 4 * 5 + 16);
 }
 
 /* set_front_len(data): the length of the set at the front of the data, or 0. Nothing else writes the data. */

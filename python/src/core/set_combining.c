@@ -95,32 +95,20 @@ static PyObject *set_combine(PyObject *m, PyObject *args)
     return array;
 }
 
-/* The set that an operation on sets gives. Room for the bytes of all, and of a chunk more, is usually enough. It doubles until it is. */
+static ptrdiff_t write_joined(const Source *from, uint32_t *work, size_t items, uint8_t *to, size_t room)
+{
+    return bitpacking_set_combine((uint32_t)from->number, from->data, from->len, work, items, to, room);
+}
+
+/* The set that an operation on sets gives. Room for the bytes of all, and of a chunk more, is usually enough. */
 static Packed *joined(PyTypeObject *type, uint32_t operation, const bitpacking_set *views, size_t len)
 {
-    size_t items = bitpacking_set_combine_room(views, len), room = CHUNK, i;
-    uint32_t *work = PyMem_Malloc(4 * items + 4);
-    uint8_t *to = NULL;
-    Packed *made = NULL;
-    ptrdiff_t size = BITPACKING_SHORT;
+    const Source from = {views, len, operation, all_of(views, len)};
+    size_t room = CHUNK, i;
 
     for (i = 0; i < len; i++)
         room += views[i].bytes_len;
-    for (; work && size == BITPACKING_SHORT; room *= 2) {
-        PyMem_Free(to);
-        if (!(to = PyMem_Malloc(room)))
-            break;
-        UNLOCKED(all_of(views, len), size = bitpacking_set_combine(operation, views, len, work, items, to, room));
-    }
-    if (!work || !to)
-        PyErr_NoMemory();
-    else if (size < 0)
-        fail(size);
-    else
-        made = set_of(type, to, (size_t)size);
-    PyMem_Free(work);
-    PyMem_Free(to);
-    return made;
+    return set_written(type, write_joined, &from, bitpacking_set_combine_room(views, len), room);
 }
 
 /* set_join(type, call, sets): the set that an operation on a tuple of sets gives. */
