@@ -213,6 +213,15 @@ public:
     /* Returns how many ids are below target. The rank of CRoaring also counts target itself, if the set has it. */
     std::size_t rank(std::uint32_t target) const noexcept { return bitpacking_set_rank(&view_, target); }
 
+    /* Returns the ids as a bitmap in Roaring's portable format: the bytes that roaring_bitmap_portable_serialize of CRoaring writes after
+     * roaring_bitmap_run_optimize. id_set::from_roaring makes a set of such bytes. */
+    std::vector<std::uint8_t> to_roaring() const
+    {
+        std::vector<std::uint8_t> bytes(bitpacking_set_roaring_size(&view_));
+        bitpacking_set_to_roaring(&view_, bytes.data(), bytes.size());
+        return bytes;
+    }
+
     /* Returns what the set is like: its ids, bytes and chunks, and the bodies of each form. */
     bitpacking_set_description describe() const noexcept
     {

@@ -221,6 +221,8 @@ static void by_hand()
     std::ptrdiff_t number;
 
     is(id_set::from_roaring(roaring, sizeof roaring), {0, 1, 2, 3, 4, 5, 6, 7, 8, 9});
+    EXPECT(id_set::from_range(0, 10).to_roaring() == std::vector<std::uint8_t>(std::begin(roaring), std::end(roaring)));
+    is(id_set::shifted(id_set{3, 5, UINT32_MAX}, -4), {1, UINT32_MAX - 4});
     is(id_set::from_roaring(roaring, 14, &number), {});
     EXPECT(number == BITPACKING_TRUNCATED && thrown([&] { id_set::from_roaring(roaring, 14); }) == number);
     is(id_set::open(bytes), {7, 9, 10, 300});
@@ -255,6 +257,8 @@ static void first_page()
     for (id_set::const_iterator i = t.begin(); i != t.end(); i++)
         ++counter;
     EXPECT(t == r1 && counter == t.size());
+    const std::vector<std::uint8_t> bitmap = all.to_roaring();
+    EXPECT(id_set::from_roaring(bitmap.data(), bitmap.size()) == all);
     EXPECT(*id_set{2, 3, 4, 7, 8}.lower_bound(4) == 4 && *id_set{2, 3, 4, 7, 8}.lower_bound(5) == 7);
 }
 

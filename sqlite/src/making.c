@@ -1,7 +1,7 @@
 /* Sets of numbers: idset(..) of its arguments, and the aggregate idset_pack of the numbers of rows. */
 #include "idset.h"
 
-/* Room for the bitmap of ids that are not in chunks: 127 containers of one id each take 1,278 bytes. */
+/* Room for the bitmap of fewer than 128 ids, which take few bytes as a set: 127 containers of one id each take 1,278. */
 enum { FEW_ROOM = 1278 };
 
 /* A text that is read, and where. */
