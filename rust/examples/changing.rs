@@ -34,7 +34,8 @@ impl Changing {
 fn main() -> Result<(), Box<dyn Error>> {
     // 0 to 9, as CRoaring and the crate `roaring` write them.
     let bitmap = [0x3B, 0x30, 0, 0, 1, 0, 0, 9, 0, 1, 0, 0, 0, 9, 0];
-    let mut ids = Changing { base: IdSetBuf::from_roaring(&bitmap)?, ..Changing::default() };
+    let base = IdSetBuf::from_roaring(&bitmap)?;
+    let mut ids = Changing { base, ..Changing::default() };
     ids.insert(&IdSetBuf::from([12, 20]));
     ids.remove(&IdSetBuf::from([4, 20]));
     let asked = IdSetBuf::from([3, 4, 12, 20]);
