@@ -208,10 +208,11 @@ impl IdSetBuf {
     /// `TooLong`, if there are more than 268,435,456 ids; `Memory`.
     ///
     /// ```
-    /// use bitpacking::set::IdSetBuf;
+    /// use bitpacking::set::{IdSet, IdSetBuf};
     ///
-    /// let [cats, dogs, old] = [[1, 4, 6, 9], [4, 6, 7, 9], [2, 6, 8, 9]].map(|ids| IdSetBuf::pack(&ids).unwrap());
-    /// assert_eq!(IdSetBuf::unite_all(&[&cats, &dogs, &old])?.unpack(), [1, 2, 4, 6, 7, 8, 9]);
+    /// let sets = vec![IdSetBuf::from([1, 4, 6, 9]), IdSetBuf::from([4, 6, 7, 9]), IdSetBuf::from([2, 6, 8, 9])];
+    /// let all: Vec<&IdSet> = sets.iter().map(|set| &**set).collect();
+    /// assert_eq!(IdSetBuf::unite_all(&all)?.unpack(), [1, 2, 4, 6, 7, 8, 9]);
     /// # Ok::<(), bitpacking::set::Error>(())
     /// ```
     pub fn unite_all(sets: &[&IdSet]) -> Result<IdSetBuf, Error> {

@@ -8,14 +8,15 @@ use crate::growing::Growing;
 use crate::roaring;
 
 impl IdSetBuf {
-    /// Returns the set of the ids of a bitmap in Roaring's portable format, as `roaring_bitmap_portable_serialize` of CRoaring and `serialize` of the
-    /// crate `roaring` write it. All bytes are tested, so they may come from a file or from another machine. Allocates the bytes of the set, and 16
-    /// bytes for each container while it runs.
+    /// Returns the set of the ids of a bitmap in Roaring's portable format, as `roaring_bitmap_portable_serialize` of CRoaring and `serialize_into` of the
+    /// crate `roaring` write it. All bytes are tested, so they may come from a file or from another machine. Allocates the bytes of the set, or at first
+    /// five quarters of the bytes of the bitmap, and 16 bytes for each container while it runs.
     ///
     /// # Errors
     ///
     /// The first fault of bytes that are no bitmap: `Short`, `BadVersion` (no cookie of Roaring), `BadNumber` (too many containers), `BadKey`,
-    /// `BadOffset`, `NotSorted`, `BadBody` or `Trailing`; `TooLong`, if there are more than 268,435,456 ids; `Memory`.
+    /// `BadOffset`, `NotSorted`, `BadBody` or `Trailing`; `TooLong`, if there are more than 268,435,456 ids; `Memory`. What `Display` shows calls a
+    /// container a chunk, and a cookie the first byte of a set.
     ///
     /// ```
     /// use bitpacking::set::{Error, IdSetBuf};
@@ -38,6 +39,7 @@ impl IdSetBuf {
                 len = roaring::fill_from_roaring(bytes, &mut room, set)?;
             }
             set.truncate(len);
+            set.shrink_to_fit();
             Ok(())
         })
     }

@@ -101,6 +101,20 @@ fn columns() -> Vec<ColumnBuf> {
 }
 
 #[test]
+fn bitmaps() {
+    for set in sets() {
+        let (bitmap, bytes) = (set.to_roaring().unwrap(), set.as_bytes().len());
+        let containers = set.unpack().chunk_by(|one, other| one >> 16 == other >> 16).count();
+        assert_eq!(IdSetBuf::from_roaring(&bitmap).unwrap().into_bytes().capacity(), bytes);
+        nothing! { set.roaring_len(); }
+        each! {
+            2, bitmap.len() + bitmap.len().max(3 * bytes) => set.to_roaring();
+            3, 16 * containers + bitmap.len() / 4 * 5 + 16 + bytes => IdSetBuf::from_roaring(&bitmap);
+        }
+    }
+}
+
+#[test]
 fn reading_a_set() {
     for set in sets() {
         let set: &IdSet = &set;

@@ -34,6 +34,8 @@ fn lengths() {
         ((65528..65536).collect(), 15),
         (vec![1, 2, 5, 6, 7], 19),
         ((0..4).flat_map(|key| [4, 5, 6, 7].map(|low| key << 16 | low)).collect(), 61),
+        // A count and two runs take as many bytes as five ids. Beside them are the flags.
+        ((0..200).flat_map(|key| [4, 5, 7, 8, 9].map(|low| key << 16 | low)).collect(), 4 + 25 + 200 * (8 + 10)),
         // Two numbers for each run take as many bytes as an array with a count: an array without it is shorter.
         (pairs(100), 16 + 400),
         (triples(100), 9 + 2 + 400),
