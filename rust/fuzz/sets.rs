@@ -38,6 +38,11 @@ pub fn read(set: &IdSet, given: &[u32]) {
         assert!(part[count..].iter().all(|it| *it == 7));
     }
     in_place(set, &ids, given);
+    let bitmap = set.to_roaring().unwrap();
+    assert_eq!(bitmap.len(), set.roaring_len());
+    assert_eq!(IdSetBuf::from_roaring(&bitmap).unwrap().as_bytes(), set.as_bytes());
+    let by = i64::from(given[0] as i32);
+    assert!(set.shift(by).unwrap().iter().eq(ids.iter().filter_map(|it| u32::try_from(i64::from(*it) + by).ok())));
     let more = first_above(&ids, given);
     let all = [&ids[..], &more].concat();
     assert_eq!(set.append(&more).unwrap(), IdSetBuf::pack(&all).unwrap());
