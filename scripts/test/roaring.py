@@ -1,9 +1,9 @@
 #!/usr/bin/env python3
 """Reads what CRoaring writes, and damaged texts of it, by `IdSetBuf::from_roaring` and by the decoders of vectors/, and compares these: random sets, as
 CRoaring makes and combines them, optimized, shrunk or neither. So are the files that the library in Go has for its tests. What `to_roaring` and
-the model of vectors/ write has to be what CRoaring writes of the same ids. It needs libroaring.so.0 (libroaring0 of Debian), these files and cargo, and
-is left out without them. `--sets` and a number is how many sets there are, else 300; `--jobs` and a number how many processes test them, else 1.
-The last line is 'N passed, M failed'.
+the model of vectors/ write has to be what CRoaring writes of the same ids, also after both combined and changed the sets. It needs libroaring.so.0
+(libroaring0 of Debian), these files and cargo, and is left out without them. `--sets` and a number is how many sets there are, else 300; `--jobs` and a
+number how many processes test them, else 1. The last line is 'N passed, M failed'.
 """
 import array
 import concurrent.futures
@@ -31,6 +31,8 @@ CALLS = {
     "run_optimize": (ctypes.c_bool, BITMAP),
     "shrink_to_fit": (ctypes.c_size_t, BITMAP),
     "flip_inplace": (None, BITMAP, *RANGE),
+    "or_inplace": (None, BITMAP, BITMAP),
+    **{f"{name}_range_closed": (None, BITMAP, ctypes.c_uint32, ctypes.c_uint32) for name in ["add", "remove"]},
     "get_cardinality": (ctypes.c_uint64, BITMAP),
     "to_uint32_array": (None, BITMAP, ctypes.c_void_p),
     "portable_size_in_bytes": (ctypes.c_size_t, BITMAP),
@@ -82,6 +84,21 @@ class Roaring:
         text = self.text(made)
         self.call("free", made)
         return text
+
+    def changed(self, ids, before):
+        """What is written of the ids that both have, and of all ids after the changes of rust/vectors/bitmaps.rs."""
+        made, other = self.of(ids), self.of(before)
+        both = self.call("and", made, other)
+        self.call("or_inplace", made, other)
+        self.call("add_range_closed", made, 70_000, 70_000)
+        self.call("remove_range_closed", made, 65_536, 65_536)
+        self.call("add_range_closed", made, 1000, 2999)
+        self.call("remove_range_closed", made, 10_000, 59_999)
+        self.call("flip_inplace", made, 130_000, 140_000)
+        found = self.ids(both), [it + 12_345 for it in self.ids(made) if it + 12_345 < 2**32]
+        for bitmap in made, other, both:
+            self.call("free", bitmap)
+        return [*map(self.optimized, found)]
 
     def files(self):
         """What the files have, with the ids that CRoaring reads; those whose names say that readers crashed have none."""
@@ -181,13 +198,17 @@ def batch_checks(program, seed, count):
     lines = "".join(f"{text.hex()}\n" for text, _ in given)
     found = run(program, input=lines).stdout.splitlines()
     yield "how many bitmaps are read", None if len(found) == len(given) else len(found)
+    before = []
     for (text, ids), right_answer, line in zip(given, right, found):
         if line.startswith("fault"):
             read = line
         else:
-            found_bytes, written = map(bytes.fromhex, line.split())
+            found_bytes, written, *changed = map(bytes.fromhex, line.split())
             read = answer_of(decode_set, number_of, found_bytes)
             yield f"what is written of bitmap {text[:40].hex()}", None if written == roaring.optimized(read) else written[:80].hex()
+            why = None if changed == roaring.changed(read, before) else " ".join(it[:80].hex() for it in changed)
+            yield f"what is written of bitmap {text[:40].hex()} after changes", why
+            before = read
         wanted = ids in (None, right_answer) or (ids == "a fault" and line.startswith("fault"))
         why = None if read == right_answer and wanted else f"{str(read)[:60]}, and not {str(right_answer)[:60]}"
         yield f"bitmap {text[:40].hex()} of {len(text)} bytes", why
