@@ -62,9 +62,23 @@ def face():
     return {it: without_comments(text_of(it)) for it in paths(f"{FACE}/**/*.rs") if not re.match(rf"{FACE}/(tests|simd)\b", it)}
 
 
-def crates_of(module):
-    """The crates that the files of a module of rust/src name, or all files."""
-    text = "\n".join(it for path, it in face().items() if re.match(rf"{FACE}/{module}\b", path))
+def modules_of(path, files):
+    """The module of rust/src that a file is of, and those above it, by their paths. The files of a folder are of one module."""
+    names = path.removeprefix(f"{FACE}/").removesuffix(".rs").split("/")
+    if len(names) > 1 and not any(it.startswith(path.removesuffix(".rs") + "/") for it in files):
+        names.pop()
+    return ["/".join(names[: end + 1]) for end in range(len(names))]
+
+
+def crates_of(path):
+    """The crates that the module of a file of rust/src names, or a module above it, or else all files."""
+    files = face()
+    own = modules_of(path, files)
+    return named("\n".join(it for other, it in files.items() if modules_of(other, files)[-1] in own)) or named("\n".join(files.values()))
+
+
+def named(text):
+    """The crates that a text names."""
     used = " ".join(re.findall(r"\buse crate::\{([^;]*)\};", text))
     return [of for name, of in crates().items() if re.search(rf"\bcrate::{name}\b", text) or re.search(rf"\b{name}\b", used)]
 
@@ -83,7 +97,7 @@ def is_said(lines, number):
 # claim: read/7 each call of a proved function in Rust says why its preconditions hold
 def calls():
     for path, text in face().items():
-        names, _, traits = map(set().union, *map(requiring, crates_of(re.match(rf"{FACE}/(\w+)", path)[1]) or crates_of("")))
+        names, _, traits = map(set().union, *map(requiring, crates_of(path)))
         lines, local = text_of(path).split("\n"), set(re.findall(r"(?m)^fn (\w+)", text))
         called = re.finditer(r"(?<!fn )(?<!\w)((?:\.|::)\s*)?(\w+)(?:::<[^()]*?>)?\(", text)
         found = [(it.start(2), f"call of {it[2]}") for it in called if it[2] in names and (it[1] or it[2] not in local)]
@@ -99,7 +113,9 @@ def modules():
         if "pub" in visible and source != r"feature = \"__source\"":
             yield f"{FILES}: a module is public with {source}"
     for path, text in face().items():
-        for found in re.finditer(rf"\bpub (?:mod|use) (?:crate::)?({'|'.join(crates())})\b([^;]*);", text):
+        # Only lib.rs has the proved modules.
+        words = "mod|use" if path == f"{FACE}/lib.rs" else "use"
+        for found in re.finditer(rf"\bpub (?:{words}) (?:crate::)?({'|'.join(crates())})\b([^;]*);", text):
             risky = {found[1], "*"}.union(*requiring(crates()[found[1]]))
             for item in re.findall(r"\w+|\*", re.sub(r"\bas \w+", "", found[2])) or [found[1]]:
                 if item in risky and path != FOR_C:
