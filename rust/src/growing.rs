@@ -57,11 +57,11 @@ impl<T: Copy> Growing<T> for Vec<T> {
 }
 
 /// Makes a vector as long as a call needs, which then writes all its values.
-pub(crate) fn resize(values: &mut Vec<u32>, len: usize) {
+pub(crate) fn resize<T: Copy + Default>(values: &mut Vec<T>, len: usize) {
     if values.capacity() < len {
         // The zeros of new memory are free.
-        *values = vec![0; len];
+        *values = vec![T::default(); len];
     } else {
-        values.resize(len, 0);
+        values.resize(len, T::default());
     }
 }

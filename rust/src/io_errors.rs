@@ -16,4 +16,4 @@ macro_rules! errors {
 }
 
 errors!(chain::Error: InvalidData, column::Error: InvalidData, ranked::Error: InvalidData, set::Error: InvalidData);
-errors!(column::OutOfBounds: InvalidInput, set::OpenError: InvalidData, set::QueryError: InvalidInput);
+errors!(column::OutOfBounds: InvalidInput, set::OpenError: InvalidData, set::QueryError: InvalidInput, set::wide::Error: InvalidData);

@@ -3,7 +3,9 @@
 /// Defines an iterator over the values of an opened type. A part has at most as many values as the number says, and from a position on at most as many
 /// as the function says. The last function writes the values from a position on.
 macro_rules! iterator {
-    ($(#[$doc:meta])* $iter:ident of $opened:ident, $buffer:ident, $module:ident::$code:ident, $most:expr, $from:expr, $read:expr) => {
+    (
+        $(#[$doc:meta])* $iter:ident of $item:ty; $opened:ident, $buffer:ident, $module:ident::$code:ident, $most:expr, $from:expr, $read:expr
+    ) => {
         $(#[$doc])*
         #[derive(Clone)]
         pub struct $iter<'a> {
@@ -13,7 +15,7 @@ macro_rules! iterator {
             end: usize,
             /// The position of the first value of the part.
             begin: usize,
-            part: Room<u32, $most>,
+            part: Room<$item, $most>,
         }
 
         impl<'a> $iter<'a> {
@@ -24,12 +26,12 @@ macro_rules! iterator {
 
             /// The value at a position, if the part has it.
             #[inline(always)]
-            fn in_part(&self, position: usize) -> Option<u32> {
+            fn in_part(&self, position: usize) -> Option<$item> {
                 self.part.items().get(position.wrapping_sub(self.begin)).copied()
             }
 
             /// The values of the part from the next one on.
-            fn unpacked(&self) -> &[u32] {
+            fn unpacked(&self) -> &[$item] {
                 let values = self.part.items();
                 let from = self.position.checked_sub(self.begin).map_or(values.len(), |from| from.min(values.len()));
                 &values[from..values.len().min(from.max(self.end.saturating_sub(self.begin)))]
@@ -45,10 +47,10 @@ macro_rules! iterator {
         }
 
         impl Iterator for $iter<'_> {
-            type Item = u32;
+            type Item = $item;
 
             #[inline]
-            fn next(&mut self) -> Option<u32> {
+            fn next(&mut self) -> Option<$item> {
                 if self.position >= self.end {
                     return None;
                 }
@@ -67,7 +69,7 @@ macro_rules! iterator {
                 (left, Some(left))
             }
 
-            fn nth(&mut self, n: usize) -> Option<u32> {
+            fn nth(&mut self, n: usize) -> Option<$item> {
                 self.position = self.position.saturating_add(n).min(self.end);
                 self.next()
             }
@@ -76,12 +78,12 @@ macro_rules! iterator {
                 self.len()
             }
 
-            fn last(mut self) -> Option<u32> {
+            fn last(mut self) -> Option<$item> {
                 self.nth(self.len().checked_sub(1)?)
             }
 
             #[inline]
-            fn fold<A, F: FnMut(A, u32) -> A>(mut self, init: A, mut f: F) -> A {
+            fn fold<A, F: FnMut(A, $item) -> A>(mut self, init: A, mut f: F) -> A {
                 let mut folded = init;
                 while let Some(value) = self.next() {
                     folded = f(folded, value);
@@ -104,7 +106,7 @@ macro_rules! iterator {
         }
 
         impl<'a> IntoIterator for &'a $opened {
-            type Item = u32;
+            type Item = $item;
             type IntoIter = $iter<'a>;
 
             #[inline]
@@ -114,7 +116,7 @@ macro_rules! iterator {
         }
 
         impl<'a, B> IntoIterator for &'a $buffer<B> {
-            type Item = u32;
+            type Item = $item;
             type IntoIter = $iter<'a>;
 
             #[inline]

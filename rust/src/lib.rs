@@ -1,6 +1,7 @@
 //! Sets of ids, columns and blocks of 32-bit integers, each value packed in few bits:
 //!
 //! - [`set`]: sets of increasing ids, which are searched and combined in place;
+//! - [`set::wide`]: sets of increasing 64-bit ids;
 //! - [`mod@column`]: numbers beside ids, which are read by position, or searched;
 //! - [`ranked`]: the documents of a query with the greatest scores;
 //! - [`BitPacker`]: single blocks, with the API and the bytes of the crate `bitpacking` 0.9.3; [`Pack`] and [`chain`] have more calls on blocks.

@@ -49,6 +49,7 @@ mod query_ids;
 mod ranges;
 mod reading;
 mod roaring;
+pub mod wide;
 
 use alloc::borrow::ToOwned;
 use alloc::vec::Vec;

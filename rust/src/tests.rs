@@ -25,3 +25,5 @@ mod set_ranges;
 mod set_reading;
 mod set_roaring;
 mod set_types;
+mod wide_sets;
+mod wide_types;

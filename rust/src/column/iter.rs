@@ -21,7 +21,7 @@ iterator! {
     /// assert_eq!(values.len(), 499_999);
     /// ```
     // A part ends with its block.
-    Iter of Column, ColumnBuf, columns::Column, BLOCK_LEN, |position| BLOCK_LEN - position % BLOCK_LEN, read
+    Iter of u32; Column, ColumnBuf, columns::Column, BLOCK_LEN, |position| BLOCK_LEN - position % BLOCK_LEN, read
 }
 
 /// Writes the values from a position on, as many as there is room for.

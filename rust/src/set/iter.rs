@@ -30,7 +30,7 @@ iterator! {
     /// assert_eq!((ids.len(), ids.next()), (299_999, Some(700_000)));
     /// # Ok::<(), bitpacking::set::Error>(())
     /// ```
-    Iter of IdSet, IdSetBuf, sets::Cursor, MOST, |_| MOST, read
+    Iter of u32; IdSet, IdSetBuf, sets::Cursor, MOST, |_| MOST, read
 }
 
 /// Writes the ids from a position on, as many as there is room for.

@@ -24,6 +24,10 @@ impl Numbers {
     pub fn below(&mut self, limit: u32) -> u32 {
         self.next() % limit
     }
+
+    pub fn next_wide(&mut self) -> u64 {
+        u64::from(self.next()) << 32 | u64::from(self.next())
+    }
 }
 
 /// How many forms [`some_ids`] has.
@@ -105,13 +109,18 @@ pub(super) fn bytes_of(field: &str) -> Vec<u8> {
     bytes.collect::<Vec<_>>().concat()
 }
 
-/// The ids of a field: `5-9` is five of them, and `0-8/2` these with steps of 2.
+/// The ids of a field, which are below 2^32.
 pub(super) fn ids_of(field: &str) -> Vec<u32> {
+    wide_ids_of(field).into_iter().map(|id| id.try_into().unwrap()).collect()
+}
+
+/// The ids of a field: `5-9` is five of them, and `0-8/2` these with steps of 2.
+pub(super) fn wide_ids_of(field: &str) -> Vec<u64> {
     let mut ids = Vec::new();
     for run in field.split(',').filter(|run| *run != "-") {
         let (ends, step) = run.split_once('/').unwrap_or((run, "1"));
         let (first, last) = ends.split_once('-').unwrap_or((ends, ends));
-        let (first, last): (u32, u32) = (first.parse().unwrap(), last.parse().unwrap());
+        let (first, last): (u64, u64) = (first.parse().unwrap(), last.parse().unwrap());
         ids.extend((first..=last).step_by(step.parse().unwrap()));
     }
     ids
