@@ -1,10 +1,12 @@
-//! Any bytes as a set and as a column: what opens is read by each call, with arguments from the bytes, and compared with a vector. The last two bytes
+//! Any bytes as a set, as a column and as a wide set: what opens is read by each call, with arguments from the bytes, and compared with a vector. The last two bytes
 //! also cut the others in two sets or columns, which are combined.
 
 mod columns;
 mod sets;
+mod wide_sets;
 
 use bitpacking::column::Column;
+use bitpacking::set::wide::WideSet;
 use bitpacking::set::{IdSet, IdSetBuf};
 
 /// Longer sets and columns, which few bytes can have, are only read at some places.
@@ -44,6 +46,10 @@ pub unsafe extern "C" fn LLVMFuzzerTestOneInput(bytes: *const u8, len: usize) ->
     }
     if let Ok(column) = Column::open(bytes) {
         columns::read(&column, &given);
+    }
+    if let Ok(set) = WideSet::open(bytes) {
+        let pairs = given.windows(2).map(|it| (u64::from(it[0]) << 32) | u64::from(it[1]));
+        wide_sets::read(&set, &pairs.collect::<Vec<u64>>());
     }
     if let Some((one, other)) = cut(bytes) {
         if let (Ok(one), Ok(other)) = (IdSet::open(one), IdSet::open(other)) {

@@ -3,6 +3,7 @@
 
 mod columns;
 mod sets;
+mod wide_sets;
 
 use std::collections::BTreeSet;
 use std::ops::{Bound, RangeBounds};
@@ -11,6 +12,7 @@ use std::{cell::Cell, cmp::Reverse, env, iter, rc::Rc, sync::Arc};
 use bitpacking::chain::{self, pack_all, unpack_all};
 use bitpacking::column::{Column, ColumnBuf, ColumnBuilder, Kind};
 use bitpacking::ranked::{CLASSES, Term, best, best_among};
+use bitpacking::set::wide::{WideSet, WideSetBuf};
 use bitpacking::set::{self, Cursor, IdSet, IdSetBuf, Query, SetBuilder};
 use bitpacking::{BitPacker1x, BitPacker4x, BitPacker8x, Packer, StableBytes};
 
@@ -24,6 +26,10 @@ impl Numbers {
     fn next(&self) -> u32 {
         self.0.set(self.0.get().wrapping_mul(6_364_136_223_846_793_005).wrapping_add(1_442_695_040_888_963_407));
         (self.0.get() >> 32) as u32
+    }
+
+    fn wide(&self) -> u64 {
+        (u64::from(self.next()) << 32) | u64::from(self.next())
     }
 
     /// A number below another, which is above 0.
@@ -57,6 +63,19 @@ fn ids(numbers: &Numbers) -> Vec<u32> {
         ids.extend(first..first + numbers.of(&[15, 16, 17]));
     }
     ids.into_iter().collect()
+}
+
+/// Increasing 64-bit ids: few, hashes, many with the same high word, and about eight for each; from either end of all ids, or between.
+fn wide_ids(numbers: &Numbers) -> Vec<u64> {
+    let (count, gap) =
+        numbers.of(&[(0, 1), (1, 1 << 60), (90, 1 << 57), (1500, 1 << 53), (1500, 1 << 30), (4000, 1 << 20), (9000, 3)]);
+    let mut next = numbers.of(&[0, 0, (1 << 32) - 700, 1 << 52]);
+    let mut ids = Vec::new();
+    for _ in 0..count {
+        ids.push(next);
+        next += 1 + numbers.wide() % gap;
+    }
+    if numbers.below(4) == 0 { ids.iter().rev().map(|id| u64::MAX - id).collect() } else { ids }
 }
 
 /// Values of a column of a kind: blocks of all widths.
@@ -178,7 +197,7 @@ fn queries(numbers: &Numbers) {
     let found: Vec<u32> = model.into_iter().collect();
     assert!(query.unpack().as_ref() == Ok(&found) && query.count() == Ok(found.len()));
     forward(numbers, query.ids().unwrap(), &found);
-    let words = [0; 3].map(|_| (u64::from(numbers.next()) << 32) | u64::from(numbers.next()));
+    let words = [0; 3].map(|_| numbers.wide());
     let sets = words.map(|word| (0..64).filter(|bit| (word >> bit) & 1 == 1).collect::<IdSetBuf>());
     let (mut query, mut word) = (Query::from(&sets[0]), words[0]);
     for level in 0..3000 {
@@ -260,7 +279,8 @@ fn damaged(numbers: &Numbers, right: &[u8], counts: &mut [usize; 2]) {
         }
         let set = IdSet::open(&bytes).map(|set| sets::read(&set, &[0, numbers.next(), u32::MAX]));
         let column = Column::open(&bytes).map(|column| columns::read(&column, &[0, numbers.next(), u32::MAX]));
-        counts[usize::from(set.is_ok() || column.is_ok())] += 1;
+        let wide = WideSet::open(&bytes).map(|set| wide_sets::read(&set, &[0, numbers.wide(), u64::MAX]));
+        counts[usize::from(set.is_ok() || column.is_ok() || wide.is_ok())] += 1;
     }
 }
 
@@ -284,6 +304,11 @@ fn round(numbers: &Numbers, counts: &mut [usize; 2]) {
     chains(numbers, BitPacker4x);
     chains(numbers, BitPacker8x);
     damaged(numbers, bytes, counts);
+    let ids = wide_ids(numbers);
+    let wide = WideSetBuf::pack(&ids).unwrap();
+    assert_eq!(wide.unpack(), ids);
+    wide_sets::read(&wide, &[0; 12].map(|_| numbers.wide() >> numbers.of(&[0, 3, 12, 32])));
+    damaged(numbers, wide.as_bytes(), counts);
     for kind in [Kind::Plain, Kind::Sorted] {
         let values = values(numbers, kind);
         let column = ColumnBuf::pack(kind, &values).unwrap();

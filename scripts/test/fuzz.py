@@ -20,7 +20,10 @@ from rows import octets, table
 OUT = f"{ROOT}/target/fuzz"
 TARGET = "x86_64-unknown-linux-gnu"
 # By file of vectors/, whose column is `bytes`: each row or each 16th, since all refused ones take longer than the minute.
-SEEDS = {"id_sets": 1, "columns": 1, "bitmaps": 1, "refused_id_sets": 16, "refused_columns": 16, "refused_bitmaps": 4}
+SEEDS = {
+    **{"id_sets": 1, "columns": 1, "bitmaps": 1, "wide_sets": 1},
+    **{"refused_id_sets": 16, "refused_columns": 16, "refused_bitmaps": 4, "refused_wide_sets": 16},
+}
 # Longer bytes are no seeds, and none are made.
 MOST = 4096
 COVERAGE = ["level=4", "inline-8bit-counters", "pc-table", "trace-compares"]

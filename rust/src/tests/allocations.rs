@@ -10,6 +10,7 @@ use crate::chain::{Kind as ChainKind, pack_all, unpack_all};
 use crate::column::{self, Column, ColumnBuf, ColumnBuilder, Kind};
 use crate::ranked::{Scored, Term, best, best_among};
 use crate::ranking;
+use crate::set::wide::{WideSet, WideSetBuf, WideSetBuilder};
 use crate::set::{self, IdSet, IdSetBuf, Query, SetBuilder};
 use crate::{BitPacker4x, Pack};
 
@@ -221,6 +222,38 @@ fn packing_a_set() {
             1, len => builder.pack();
             1, ids_of(ids.len()) => SetBuilder::new().extend(&ids);
             2, ids_of(ids.len()) + len => ids.iter().copied().rev().collect::<IdSetBuf>();
+        }
+    }
+}
+
+/// Of no ids, few, hashes, and many with the same high word.
+#[test]
+fn wide_sets() {
+    for (len, step) in [(0, 1), (9, 7), (2000, 0x000F_1234_5678_9ABC), (70_000, 3)] {
+        let ids: Vec<u64> = (0..len).map(|k| k * step).collect();
+        let (packed, mut builder, mut unpacked) = (WideSetBuf::pack(&ids).unwrap(), WideSetBuilder::new(), ids.clone());
+        builder.push_all(&ids).unwrap();
+        let (set, len, last, mut page): (&WideSet, _, _, _) = (&packed, ids.len(), packed.max().unwrap_or(0), [0; 300]);
+        nothing! {
+            WideSet::open(set.as_bytes()).unwrap().len();
+            // SAFETY: these bytes were packed.
+            unsafe { WideSet::open_unchecked(set.as_bytes()) }.len();
+            (set.len(), set.is_empty(), set.min(), set.max());
+            (set.contains(last / 2), set.rank(last / 2), set.select(len / 2), set.seek(last / 2));
+            (set.unpack_range(len / 3, &mut page), set.part(0).map(|part| part.len()));
+            set.unpack_into(&mut unpacked);
+            set.iter().step_by(99).fold(0, |all, id| all ^ id);
+            set.range(last / 2..).fold(0, |all, id| all ^ id);
+            set.write_to(std::io::sink());
+            WideSetBuilder::new();
+        }
+        let space_and_bytes = 4 * len + octets(set.as_bytes());
+        each! {
+            1, 8 * len => set.unpack();
+            1, set.as_bytes().len() => set.to_owned();
+            2, space_and_bytes => WideSetBuf::pack(&ids);
+            2, space_and_bytes => builder.pack();
+            3, 8 * len.max(4) + space_and_bytes => ids.iter().rev().collect::<WideSetBuf>();
         }
     }
 }
