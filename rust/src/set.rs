@@ -22,6 +22,7 @@
 //!
 //! [`IdSet`] has the calls that read, and is always behind a reference, as a `str` is. [`IdSetBuf`] owns or borrows the bytes of a set. The bytes
 //! of a set do not change: a call that combines sets or appends ids returns another set, and `|=` and `extend` replace a set by another one.
+//! Sets of 64-bit ids are in [`wide`].
 //!
 //! # Sizes
 //!

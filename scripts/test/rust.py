@@ -43,6 +43,8 @@ EXAMPLES = {
     "set": "from 100 on: Some((3, 300)), in both: [9, 300]\n",
     # 0 to 9 and 12, without 4; 20 came and went.
     "changing": "[3, 12]\n10 ids, 0 changes\n",
+    # 2^40 is 1,099,511,627,776, at position 1.
+    "wide": "from 8 on: Some((1, 1099511627776))\n",
     # 199 and 205 are below 210.
     "column": "row 2: Some(205)\nrows below 210: [1, 2]\n",
 }
@@ -51,7 +53,7 @@ FIRST_COPY = {"BITPACKING_FIRST_COPY": "1"}
 # What both copies of the modules share, or the second one calls by a trait: none of it has vectors.
 SHARED = ("bitpacking::growing::", "bitpacking::slices::operation::", "bitpacking::ranking::term::")
 # The tests that run under valgrind, by parts of their names.
-FILLING = ["column_reading", "column_searching", "column_appending", "set_combining::two_sets", "set_iter", "do_not_fit"]
+FILLING = ["column_reading", "column_searching", "column_appending", "set_combining::two_sets", "set_iter", "do_not_fit", "wide_sets::both"]
 MANIFEST = '[package]\nname = "{}"\nversion = "0.0.0"\nedition = "2024"\n\n[dependencies]\n{}\n'
 
 
