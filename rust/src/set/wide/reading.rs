@@ -32,8 +32,7 @@ impl WideSet {
         self.code().is_empty()
     }
 
-    /// Returns whether the set has an id. It finds the high 32 bits by halving, and then looks into one id set, or one block of 128 high words and
-    /// the low words beside it.
+    /// Returns whether the set has an id. Finds one chunk of an id set by halving, or at most two blocks of 128 high words, and looks into these.
     ///
     /// ```
     /// use bitpacking::set::wide::WideSetBuf;
