@@ -180,7 +180,7 @@ impl WideSet {
     pub fn part(&self, high: u32) -> Option<IdSetBuf<&[u8]>> {
         let part = self.code().part(high)?;
         // The proved set does not return its bytes: they are as many as it says, and end with what is after its counts.
-        let end = part.parts().rest.as_ptr_range().end as usize - self.as_bytes().as_ptr() as usize;
+        let end = part.parts().rest.as_ptr_range().end.addr() - self.as_bytes().as_ptr().addr();
         let bytes = &self.as_bytes()[end - part.describe().bytes..end];
         // SAFETY: they were tested when this set was opened.
         Some(unsafe { IdSet::open_unchecked(bytes) })
