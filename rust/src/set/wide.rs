@@ -18,9 +18,9 @@
 //!
 //! # Sizes
 //!
-//! A wide set has at most 268,435,456 ids, and n ids take at most `33 * n / 4 + 22` bytes. If there are at least 8 ids for each different value of
-//! the high 32 bits, each of these has an id set of the low 32 bits. Else an id takes 4 bytes for its low 32 bits, and the high ones are a sorted
-//! column. 49 KB may hold 268,435,456 ids, so look at [`len`](WideSet::len) before you unpack a set of others.
+//! A wide set has at most 268,435,456 ids, and n ids take at most `33 * n / 4 + 22` bytes. If there are on average at least 8 ids for each different
+//! value of the high 32 bits, each of these values has an id set of the low 32 bits. Else an id takes 4 bytes for its low 32 bits, and the high ones
+//! are a sorted column. 49 KB may hold 268,435,456 ids, so look at [`len`](WideSet::len) before you unpack a set of others.
 
 mod builder;
 mod iter;

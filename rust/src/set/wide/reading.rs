@@ -161,8 +161,8 @@ impl WideSet {
     /// Returns the ids whose high 32 bits are `high` as the id set of their low 32 bits. It borrows the bytes of this set. Looks at each chunk of that
     /// id set, and allocates nothing.
     ///
-    /// It is `None` if there is no such id, and also if this set has fewer than 8 ids for each different value of the high 32 bits: its bytes have no
-    /// id sets then, and [`range`](WideSet::range) finds the ids.
+    /// It is `None` if there is no such id. It is also `None` if this set has on average fewer than 8 ids for each different value of the high 32
+    /// bits: its bytes have no id sets then, and [`range`](WideSet::range) finds the ids.
     ///
     /// ```
     /// use bitpacking::set::wide::WideSetBuf;
