@@ -48,28 +48,83 @@ int get_items(PyObject *from, Py_buffer *to, size_t item, int flags)
         strchr(size == 4 ? "IL" : "lLqQnN", *format))
         return 0;
     PyErr_Format(PyExc_TypeError, "aligned values of %s expected, not the format '%s' of %zd bytes",
-                 item == 4 ? "uint32" : item == 8 ? "int64" : "uint32, int64 or uint64", to->format ? to->format : "B", to->itemsize);
+                 item == 4 ? "uint32" : item == 8 ? "int64 or uint64" : "uint32, int64 or uint64", to->format ? to->format : "B", to->itemsize);
     PyBuffer_Release(to);
     return -1;
 }
 
-/* Reads a number to be searched: 1 and the value, 0 if it is below 0, 2 if it is above all values, or -1 with an exception. */
-int get_target(PyObject *it, uint32_t *value)
+/* Reads a number from 2^63 on: 1 and the value, 2 if it has more than 64 bits, or -1 with an exception. */
+static int get_large(PyObject *it, uint64_t *value)
 {
-    int overflow;
+    PyObject *index = PyNumber_Index(it);
+
+    if (!index)
+        return -1;
+    *value = PyLong_AsUnsignedLongLong(index);
+    Py_DECREF(index);
+    if (!PyErr_Occurred())
+        return 1;
+    PyErr_Clear();
+    return 2;
+}
+
+/* Reads a number to be searched: 1 and the value, 0 if it is below 0, 2 if it is above `most`, or -1 with an exception. */
+int get_target(PyObject *it, uint64_t most, uint64_t *value)
+{
+    int overflow, read = 1;
     long long number = PyLong_AsLongLongAndOverflow(it, &overflow);
 
     if (number == -1 && !overflow && PyErr_Occurred())
         return -1;
     *value = 0;
-    if (overflow > 0 || number > (long long)UINT32_MAX) {
-        *value = UINT32_MAX;
-        return 2;
-    }
-    if (overflow < 0 || number < 0)
+    if (overflow < 0 || (!overflow && number < 0))
         return 0;
-    *value = (uint32_t)number;
-    return 1;
+    if (overflow)
+        read = get_large(it, value);
+    else
+        *value = (uint64_t)number;
+    return read == 1 && *value > most ? 2 : read;
+}
+
+static size_t least_of(size_t one, size_t other) { return one < other ? one : other; }
+
+/* Writes what a call writes of integers of 4 or 8 bytes. It copies them to private memory, since other threads may write theirs. */
+static void write_all(const void *it, write_found *write, const Py_buffer *in, const Py_buffer *out, size_t done, size_t end)
+{
+    uint64_t part[512];
+    uint32_t narrow;
+    size_t count, i;
+
+    for (; done < end; done += count) {
+        count = least_of(end - done, 512);
+        if (in->itemsize == 8)
+            memcpy(part, (char *)in->buf + 8 * done, 8 * count);
+        else
+            for (i = 0; i < count; i++) {
+                memcpy(&narrow, (char *)in->buf + 4 * (done + i), 4);
+                part[i] = narrow;
+            }
+        write(it, part, count, (char *)out->buf + (size_t)out->itemsize * done);
+    }
+}
+
+/* A new array of what a call writes of each integer of a buffer. */
+PyObject *found_of(const void *it, const Py_buffer *in, PyObject *type, write_found *write)
+{
+    size_t len = (size_t)(in->len / in->itemsize), done, count;
+    Py_buffer out;
+    PyObject *array = new_array(len, type, &out);
+
+    if (!array)
+        return NULL;
+    for (done = 0; done < len && PyErr_CheckSignals() == 0; done += count) {
+        count = least_of(len - done, FEW);
+        UNLOCKED(count, write_all(it, write, in, &out, done, done + count));
+    }
+    PyBuffer_Release(&out);
+    if (done < len)
+        Py_CLEAR(array);
+    return array;
 }
 
 /* Whether the bounds do not fall, and are bounds of as many items. */

@@ -41,24 +41,34 @@ typedef struct {
     bitpacking_set view;
 } Set;
 
+/* A wide set, whose ids have 64 bits. */
+typedef struct {
+    Packed packed;
+    bitpacking_wide_set view;
+} WideSet;
+
 /* Set by the module, and never changed after fimulowen is imported. */
-extern PyTypeObject *Packed_type, *Raw_type, *Set_type, *Column_type, *Term_type;
+extern PyTypeObject *Packed_type, *Raw_type, *Set_type, *WideSet_type, *Column_type, *Term_type;
 extern PyObject *numpy_empty, *type_u32, *type_u64, *type_index, *type_bool, *Refusal, *refused;
 
 /* errors.c: each sets an exception, and returns NULL. A position or number below 0 is None. */
 void *fail(ptrdiff_t fault);
 void *fail_as(const char *text, const char *fault);
 void *fail_at(ptrdiff_t fault, Py_ssize_t position, Py_ssize_t number);
-void *fail_to_open(ptrdiff_t fault, const uint8_t *bytes, size_t len, Py_ssize_t number);
+void *fail_to_open(ptrdiff_t fault, const Packed *it, Py_ssize_t number);
 
 /* Opens the bytes of an object from `from` up to `to`. `number` is for an error: which of many these are, or -1. */
 typedef PyObject *open_call(PyTypeObject *type, PyObject *data, size_t from, size_t to, Py_ssize_t number);
+
+/* Writes what is found of each integer to an array. */
+typedef void write_found(const void *it, const uint64_t *items, size_t len, void *out);
 
 /* arrays.c */
 PyObject *new_array(size_t len, PyObject *type, Py_buffer *out);
 PyObject *first_of(PyObject *array, Py_buffer *out, size_t len);
 int get_items(PyObject *from, Py_buffer *to, size_t item, int flags);
-int get_target(PyObject *it, uint32_t *value);
+int get_target(PyObject *it, uint64_t most, uint64_t *value);
+PyObject *found_of(const void *it, const Py_buffer *in, PyObject *type, write_found *write);
 int are_bounds(const int64_t *bounds, size_t count, size_t len);
 PyObject *opened_parts(PyTypeObject *type, PyObject *data, PyObject *bounds, open_call *open);
 
@@ -85,23 +95,31 @@ typedef ptrdiff_t set_writer(const Source *from, uint32_t *work, size_t items, u
 Packed *set_of(PyTypeObject *type, const uint8_t *bytes, size_t len);
 Packed *set_written(PyTypeObject *type, set_writer *call, const Source *from, size_t items, size_t room);
 
-/* set_reading.c: the methods of a set. */
-Py_ssize_t Set_length(PyObject *self);
-PyObject *Set_item(PyObject *self, Py_ssize_t at);
-PyObject *Set_subscript(PyObject *self, PyObject *key);
-PyObject *Set_compare(PyObject *self, PyObject *other, int how);
-extern PyMethodDef Set_methods[];
+/* The methods of a set: ids_reading.h has the first ones. */
+#define METHODS_OF(type)                                                                                                               \
+    Py_ssize_t type##_length(PyObject *self);                                                                                          \
+    PyObject *type##_item(PyObject *self, Py_ssize_t at);                                                                              \
+    PyObject *type##_subscript(PyObject *self, PyObject *key);                                                                         \
+    int type##_contains(PyObject *self, PyObject *it);                                                                                 \
+    PyObject *type##_compare(PyObject *self, PyObject *other, int how);                                                                \
+    PyObject *type##_contains_many(PyObject *self, PyObject *ids);                                                                     \
+    PyObject *type##_rank_many(PyObject *self, PyObject *targets);                                                                     \
+    extern PyMethodDef type##_methods[]
 
-/* set_search.c: those that search it. */
-int Set_contains(PyObject *self, PyObject *it);
-PyObject *Set_seek(PyObject *self, PyObject *it);
-PyObject *Set_rank(PyObject *self, PyObject *it);
-PyObject *Set_contains_many(PyObject *self, PyObject *ids);
-PyObject *Set_rank_many(PyObject *self, PyObject *targets);
+METHODS_OF(Set);     /* set_reading.c, set_search.c */
+METHODS_OF(WideSet); /* wide_set.c */
+
+/* The slots of their types. */
+#define SLOTS_OF(type, doc)                                                                                                            \
+    {                                                                                                                                  \
+        {Py_tp_doc, doc}, {Py_tp_methods, type##_methods}, {Py_tp_richcompare, type##_compare}, {Py_sq_length, type##_length},         \
+        {Py_sq_item, type##_item}, {Py_sq_contains, type##_contains}, {Py_mp_length, type##_length},                                   \
+        {Py_mp_subscript, type##_subscript}, {0, NULL},                                                                                \
+    }
 
 /* The types and functions of each file. */
-extern PyType_Spec Set_spec, Column_spec, Term_spec;
-extern PyMethodDef chain_functions[], set_functions[], combining_functions[], many_functions[], column_functions[], arrow_functions[],
-    ranked_functions[];
+extern PyType_Spec Set_spec, WideSet_spec, Column_spec, Term_spec;
+extern PyMethodDef chain_functions[], set_functions[], combining_functions[], many_functions[], wide_functions[], column_functions[],
+    arrow_functions[], ranked_functions[];
 
 #endif

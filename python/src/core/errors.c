@@ -69,14 +69,15 @@ void *fail_as(const char *text, const char *fault) { return raise(PyObject_CallF
 
 void *fail(ptrdiff_t fault) { return fail_at(fault, -1, -1); }
 
-/* Raises what fimulowen.errors.refused makes of the bytes of a set: it looks for the place of the fault, but not in many bytes. */
-void *fail_to_open(ptrdiff_t fault, const uint8_t *bytes, size_t len, Py_ssize_t number)
+/* Raises what fimulowen.errors.refused makes of the bytes of a set, or of a wide one: it looks for the place of the fault, but not in many bytes. */
+void *fail_to_open(ptrdiff_t fault, const Packed *it, Py_ssize_t number)
 {
     PyObject *of = number_or_none(number), *made = NULL;
-    PyObject *copy = PyBytes_FromStringAndSize((const char *)bytes, (Py_ssize_t)(len <= READ_AGAIN ? len : READ_AGAIN + 1));
+    PyObject *copy = PyBytes_FromStringAndSize((const char *)it->bytes, (Py_ssize_t)(it->len <= READ_AGAIN ? it->len : READ_AGAIN + 1));
+    int is_wide = PyObject_TypeCheck((PyObject *)it, WideSet_type);
 
     if (of && copy)
-        made = PyObject_CallFunction(refused, "ssOO", bitpacking_error_text(fault), name_of(fault), of, copy);
+        made = PyObject_CallFunction(refused, "ssOOi", bitpacking_error_text(fault), name_of(fault), of, copy, is_wide);
     Py_XDECREF(of);
     Py_XDECREF(copy);
     return raise(made);

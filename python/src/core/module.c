@@ -1,7 +1,7 @@
 /* fimulowen._core: sets, columns and chains for Python, over the C library. The state is static: it serves one interpreter. */
 #include "core.h"
 
-PyTypeObject *Packed_type, *Raw_type, *Set_type, *Column_type, *Term_type;
+PyTypeObject *Packed_type, *Raw_type, *Set_type, *WideSet_type, *Column_type, *Term_type;
 PyObject *numpy_empty, *type_u32, *type_u64, *type_index, *type_bool, *Refusal, *refused;
 
 static struct PyModuleDef module = {PyModuleDef_HEAD_INIT, "_core", NULL, -1, NULL, NULL, NULL, NULL, NULL};
@@ -44,7 +44,7 @@ static PyTypeObject *added(PyObject *m, const char *name, PyType_Spec *spec, PyT
 PyMODINIT_FUNC PyInit__core(void)
 {
     PyMethodDef *functions[] = {chain_functions, set_functions, combining_functions, many_functions,
-                                column_functions, arrow_functions, ranked_functions};
+                                wide_functions, column_functions, arrow_functions, ranked_functions};
     PyObject *m = PyModule_Create(&module);
     size_t i;
 
@@ -52,6 +52,7 @@ PyMODINIT_FUNC PyInit__core(void)
         return PyErr_Format(PyExc_ImportError, "fimulowen was built with the header and the archive of two versions");
     if (!m || !have_objects() || !(Packed_type = added(m, "Packed", &Packed_spec, NULL)) ||
         !(Raw_type = (PyTypeObject *)PyType_FromSpec(&Raw_spec)) || !(Set_type = added(m, "Set", &Set_spec, Packed_type)) ||
+        !(WideSet_type = added(m, "WideSet", &WideSet_spec, Packed_type)) ||
         !(Column_type = added(m, "Column", &Column_spec, Packed_type)) || !(Term_type = added(m, "Term", &Term_spec, NULL)) ||
         PyModule_AddIntConstant(m, "VERSION", (long)bitpacking_version()) < 0)
         return NULL;

@@ -1,5 +1,23 @@
-/* The type of an id set, and how one is packed and opened. */
+/* The type of an id set, and how one is packed and opened, of 32 or of 64 bits. */
 #include "core.h"
+
+static int is_wide(PyTypeObject *type) { return PyType_IsSubtype(type, WideSet_type); }
+
+/* The bytes of an id of a type, or 0 with an exception. */
+static size_t item_of(PyObject *type)
+{
+    if (PyType_Check(type) && is_wide((PyTypeObject *)type))
+        return 8;
+    return subtype_of(Set_type, type) ? 4 : 0;
+}
+
+/* Opens the bytes that an object holds, and tests all of them. */
+static ptrdiff_t open_held(Packed *it)
+{
+    if (is_wide(Py_TYPE((PyObject *)it)))
+        return bitpacking_wide_set_open(it->bytes, it->len, &((WideSet *)it)->view);
+    return bitpacking_set_open(it->bytes, it->len, &((Set *)it)->view);
+}
 
 /* Opens bytes, and tests all of them. */
 static PyObject *opened(PyTypeObject *type, PyObject *data, size_t from, size_t to, Py_ssize_t number)
@@ -9,9 +27,9 @@ static PyObject *opened(PyTypeObject *type, PyObject *data, size_t from, size_t 
 
     if (!self)
         return NULL;
-    UNLOCKED(self->len, answer = bitpacking_set_open(self->bytes, self->len, &((Set *)self)->view));
+    UNLOCKED(self->len, answer = open_held(self));
     if (answer < 0) {
-        fail_to_open(answer, self->bytes, self->len, number);
+        fail_to_open(answer, self, number);
         Py_CLEAR(self);
     }
     return (PyObject *)self;
@@ -22,7 +40,7 @@ static PyObject *set_open(PyObject *m, PyObject *args)
     PyObject *type, *data;
 
     (void)m;
-    if (!PyArg_ParseTuple(args, "OO", &type, &data) || !subtype_of(Set_type, type))
+    if (!PyArg_ParseTuple(args, "OO", &type, &data) || !item_of(type))
         return NULL;
     return opened((PyTypeObject *)type, data, 0, SIZE_MAX, -1);
 }
@@ -32,7 +50,7 @@ static PyObject *set_open_many(PyObject *m, PyObject *args)
     PyObject *type, *data, *bounds;
 
     (void)m;
-    if (!PyArg_ParseTuple(args, "OOO", &type, &data, &bounds) || !subtype_of(Set_type, type))
+    if (!PyArg_ParseTuple(args, "OOO", &type, &data, &bounds) || !item_of(type))
         return NULL;
     return opened_parts((PyTypeObject *)type, data, bounds, opened);
 }
@@ -42,9 +60,27 @@ Packed *set_of(PyTypeObject *type, const uint8_t *bytes, size_t len)
 {
     Packed *made = copy_of(type, bytes, len);
 
-    if (made)
+    if (made && is_wide(type))
+        bitpacking_wide_set_open_tested(made->bytes, made->len, &((WideSet *)made)->view);
+    else if (made)
         bitpacking_set_open_tested(made->bytes, made->len, &((Set *)made)->view);
     return made;
+}
+
+/* Packs a buffer of ids to new memory. Returns the number of bytes, or an error: SHORT if there is no memory. */
+static ptrdiff_t packed(const Py_buffer *ids, size_t item, uint8_t **to)
+{
+    size_t len = (size_t)ids->len / item, room = item == 8 ? BITPACKING_WIDE_SET_ROOM(len) : BITPACKING_SET_ROOM(len);
+    uint32_t *space = item == 8 ? PyMem_Malloc(4 * len + 4) : NULL;
+    ptrdiff_t size = BITPACKING_SHORT;
+
+    *to = PyMem_Malloc(room);
+    if (*to && item == 4)
+        UNLOCKED(len, size = bitpacking_set_pack(ids->buf, len, *to, room, NULL));
+    else if (*to && space)
+        UNLOCKED(len, size = bitpacking_wide_set_pack(ids->buf, len, *to, room, space, len, NULL));
+    PyMem_Free(space);
+    return size;
 }
 
 /* set_pack(type, ids): a set, or None if the ids do not increase. Nothing else writes the ids. */
@@ -52,26 +88,21 @@ static PyObject *set_pack(PyObject *m, PyObject *args)
 {
     PyObject *type, *ids, *made = NULL;
     Py_buffer in;
-    size_t len, room;
+    size_t item;
     uint8_t *to;
     ptrdiff_t size;
 
     (void)m;
-    if (!PyArg_ParseTuple(args, "OO", &type, &ids) || !subtype_of(Set_type, type) || get_items(ids, &in, 4, 0) < 0)
+    if (!PyArg_ParseTuple(args, "OO", &type, &ids) || !(item = item_of(type)) || get_items(ids, &in, item, 0) < 0)
         return NULL;
-    len = (size_t)in.len / 4;
-    room = BITPACKING_SET_ROOM(len);
-    to = PyMem_Malloc(room);
-    if (!to) {
-        PyBuffer_Release(&in);
-        return PyErr_NoMemory();
-    }
-    UNLOCKED(len, size = bitpacking_set_pack(in.buf, len, to, room, NULL));
+    size = packed(&in, item, &to);
     PyBuffer_Release(&in);
     if (size >= 0)
         made = (PyObject *)set_of((PyTypeObject *)type, to, (size_t)size);
     else if (size == BITPACKING_NOT_SORTED)
         made = Py_NewRef(Py_None);
+    else if (size == BITPACKING_SHORT)
+        PyErr_NoMemory();
     else
         fail(size);
     PyMem_Free(to);
@@ -222,17 +253,7 @@ static PyObject *set_append(PyObject *m, PyObject *args)
     return (PyObject *)made;
 }
 
-static PyType_Slot Set_slots[] = {
-    {Py_tp_doc, "The packed bytes of a set, with the calls of the C library."},
-    {Py_tp_methods, Set_methods},
-    {Py_tp_richcompare, Set_compare},
-    {Py_sq_length, Set_length},
-    {Py_sq_item, Set_item},
-    {Py_sq_contains, Set_contains},
-    {Py_mp_length, Set_length},
-    {Py_mp_subscript, Set_subscript},
-    {0, NULL},
-};
+static PyType_Slot Set_slots[] = SLOTS_OF(Set, "The packed bytes of a set, with the calls of the C library.");
 
 PyType_Spec Set_spec = {"fimulowen._core.Set", sizeof(Set), 0,
                         Py_TPFLAGS_DEFAULT | Py_TPFLAGS_BASETYPE | Py_TPFLAGS_DISALLOW_INSTANTIATION, Set_slots};

@@ -1,63 +1,7 @@
-/* The methods that search a set for one id or for many. */
+/* The methods that search a set for many ids. */
 #include "core.h"
-#include <string.h>
-
-static bitpacking_set *view_of(PyObject *self) { return &((Set *)self)->view; }
 
 static size_t least_of(size_t one, size_t other) { return one < other ? one : other; }
-
-int Set_contains(PyObject *self, PyObject *it)
-{
-    uint32_t id;
-    int answer = get_target(it, &id);
-
-    if (answer == -1 && PyErr_ExceptionMatches(PyExc_TypeError)) {
-        PyErr_Clear();
-        return 0;
-    }
-    return answer == 1 ? bitpacking_set_contains(view_of(self), id) : answer == -1 ? -1 : 0;
-}
-
-/* What a method of fimulowen/id_set.py returns for an iterable of targets, after an exception said that it is no integer. */
-static PyObject *many(PyObject *self, const char *name, PyObject *targets)
-{
-    PyObject *type, *value, *trace;
-
-    if (!PyErr_ExceptionMatches(PyExc_TypeError))
-        return NULL;
-    PyErr_Fetch(&type, &value, &trace);
-    if (!PyObject_HasAttrString(targets, "__iter__")) {
-        PyErr_Restore(type, value, trace);
-        return NULL;
-    }
-    Py_XDECREF(type);
-    Py_XDECREF(value);
-    Py_XDECREF(trace);
-    return PyObject_CallMethod(self, name, "(O)", targets);
-}
-
-PyObject *Set_seek(PyObject *self, PyObject *it)
-{
-    uint32_t target, id;
-    size_t position;
-    int read = get_target(it, &target);
-
-    if (read == -1)
-        return many(self, "_seek_many", it);
-    if (read == 2 || bitpacking_set_seek(view_of(self), target, &position, &id) != 1)
-        Py_RETURN_NONE;
-    return Py_BuildValue("nk", (Py_ssize_t)position, (unsigned long)id);
-}
-
-PyObject *Set_rank(PyObject *self, PyObject *it)
-{
-    uint32_t target;
-    int read = get_target(it, &target);
-
-    if (read == -1)
-        return many(self, "_rank_many", it);
-    return PyLong_FromSize_t(read == 2 ? bitpacking_set_len(view_of(self)) : bitpacking_set_rank(view_of(self), target));
-}
 
 /* What a call searches: a set, or all its ids as bits from the least on, with the number of ids before each word of them if it wants ranks. */
 typedef struct {
@@ -117,9 +61,10 @@ static int make_bits(Search *it, size_t asked, int are_ranked)
     return 0;
 }
 
-/* Writes a byte for each integer: whether the set has it. */
-static void find(const Search *it, const uint64_t *items, size_t len, void *out)
+/* Writes a byte for each integer: whether the set has it. One below 0 is one above all ids here. */
+static void find(const void *search, const uint64_t *items, size_t len, void *out)
 {
+    const Search *it = search;
     uint8_t *found = out;
     size_t i;
 
@@ -140,8 +85,9 @@ static unsigned ones_of(uint64_t bits)
 }
 
 /* Writes how many ids are below each integer, as 8 bytes. */
-static void rank(const Search *it, const uint64_t *items, size_t len, void *out)
+static void rank(const void *search, const uint64_t *items, size_t len, void *out)
 {
+    const Search *it = search;
     int64_t *ranks = out;
     size_t i;
 
@@ -156,52 +102,19 @@ static void rank(const Search *it, const uint64_t *items, size_t len, void *out)
     }
 }
 
-typedef void write_found(const Search *it, const uint64_t *items, size_t len, void *out);
-
-/* Writes what a call finds of integers of 4 or 8 bytes. It copies them to private memory, since other threads may write theirs. One below 0 becomes
- * one above all ids. */
-static void write_all(const Search *it, write_found *write, const Py_buffer *in, const Py_buffer *out, size_t done, size_t end)
-{
-    uint64_t part[512];
-    uint32_t narrow;
-    size_t count, i;
-
-    for (; done < end; done += count) {
-        count = least_of(end - done, 512);
-        if (in->itemsize == 8)
-            memcpy(part, (char *)in->buf + 8 * done, 8 * count);
-        else
-            for (i = 0; i < count; i++) {
-                memcpy(&narrow, (char *)in->buf + 4 * (done + i), 4);
-                part[i] = narrow;
-            }
-        write(it, part, count, (char *)out->buf + (size_t)out->itemsize * done);
-    }
-}
-
 /* A new array of what a call writes of each integer of an array. */
 static PyObject *searched(PyObject *self, PyObject *items, size_t item, PyObject *type, write_found *write)
 {
-    Search search = {view_of(self), NULL, 0, 0, NULL};
-    Py_buffer in, out;
-    PyObject *array;
-    size_t len, done = 0, count;
+    Search search = {&((Set *)self)->view, NULL, 0, 0, NULL};
+    PyObject *array = NULL;
+    Py_buffer in;
 
     if (get_items(items, &in, item, 0) < 0)
         return NULL;
-    len = (size_t)(in.len / in.itemsize);
-    array = new_array(len, type, &out);
-    if (array && make_bits(&search, len, write == rank) == 0)
-        for (; done < len && PyErr_CheckSignals() == 0; done += count) {
-            count = least_of(len - done, FEW);
-            UNLOCKED(count, write_all(&search, write, &in, &out, done, done + count));
-        }
+    if (make_bits(&search, (size_t)(in.len / in.itemsize), write == rank) == 0)
+        array = found_of(&search, &in, type, write);
     free_bits(&search);
     PyBuffer_Release(&in);
-    if (array)
-        PyBuffer_Release(&out);
-    if (PyErr_Occurred())
-        Py_CLEAR(array);
     return array;
 }
 

@@ -9,6 +9,7 @@ from . import _core, chain
 from .column import Column
 from .errors import Error
 from .id_set import IdSet
+from .id_set64 import IdSet64
 from .combining import (
     intersect,
     intersect_len,
@@ -28,6 +29,7 @@ __all__ = [
     "Column",
     "Error",
     "IdSet",
+    "IdSet64",
     "Query",
     "Term",
     "best",

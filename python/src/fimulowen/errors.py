@@ -33,8 +33,8 @@ class Error(ValueError):
         return f"{self.text} ({', '.join([str(self.fault), *places])})"
 
 
-def refused(text: str, fault: str, number: Optional[int], data: bytes) -> Error:
-    """The error for bytes that do not open as a set, with where it is in them."""
-    from .faults import place
+def refused(text: str, fault: str, number: Optional[int], data: bytes, is_wide: bool) -> Error:
+    """The error for bytes that do not open as a set, or as a wide one, with where it is in them."""
+    from . import faults, wide_faults
 
-    return Error(text, fault, number=number, **place(data, fault))
+    return Error(text, fault, number=number, **faults.place(data, fault, wide_faults.test if is_wide else faults.test))

@@ -3,12 +3,13 @@ order of docs/FORMAT.md, up to the same fault. It only runs once bytes are refus
 
 from __future__ import annotations
 
-from typing import Any, Dict, List, Optional, Tuple
+from typing import Any, Callable, Dict, List, Optional, Tuple
 
 import numpy as np
 
 MOST = 1 << 20  # bytes that are read again, in about a tenth of a second
-_SHORT, _MOST = 128, 1 << 28
+_SHORT, MOST_IDS = 128, 1 << 28
+ANY = ""  # the name of a fault that only the library knows
 
 
 class Found(Exception):
@@ -19,15 +20,15 @@ class Found(Exception):
         self.fault, self.place = fault, {"byte": byte, "part": part, "position": position}
 
 
-def place(data: bytes, fault: str) -> Dict[str, Any]:
-    """Where the first fault of the bytes is, as the arguments of Error. It is empty if they are many, which is slow to read here, or have another
-    first fault."""
+def place(data: bytes, fault: str, test: Callable[[Reader], None]) -> Dict[str, Any]:
+    """Where the first fault of the bytes is that a test finds, as the arguments of Error. It is empty if they are many, which is slow to read here,
+    or have another first fault."""
     if len(data) > MOST:
         return {}
     try:
-        _test(Reader(data))
+        test(Reader(data))
     except Found as found:
-        return found.place if found.fault == fault else {}
+        return found.place if found.fault in (fault, ANY) else {}
     return {}
 
 
@@ -86,7 +87,7 @@ class Reader:
         return found
 
 
-def _test(data: Reader) -> None:
+def test(data: Reader) -> None:
     first = data.byte()
     if first >= _SHORT:
         _few(data, first - _SHORT)
@@ -94,7 +95,7 @@ def _test(data: Reader) -> None:
         need(first in (5, 6), "BadVersion", 0)
         at = data.at
         count = data.number(_SHORT)
-        need(count <= _MOST, "TooLong", at)
+        need(count <= MOST_IDS, "TooLong", at)
         (_array if first == 6 else _chunks)(data, count)
     need(data.left() == 0, "Trailing", data.at)
 
@@ -112,55 +113,60 @@ def _array(data: Reader, count: int) -> None:
     at = data.at
     need(data.left() >= 4 * count, "Short", len(data.data))
     ids = integers(data.rows(count, 4))
-    _increasing(ids, at, 4, 0, None)
+    increasing(ids, at, 4, 0, None)
     need(len(np.unique(ids >> 16)) > count // 4, "LooseForm", at)
 
 
-def _increasing(numbers: np.ndarray, at: int, size: int, before: int, part: Optional[int]) -> None:
+def increasing(numbers: np.ndarray, at: int, size: int, before: int, part: Optional[int]) -> None:
     for i in np.flatnonzero(numbers[1:] <= numbers[:-1])[:1].tolist():
         raise Found("NotSorted", at + size * (i + 1), part, before + i + 1)
 
 
 def _chunks(data: Reader, count: int) -> None:
+    parts(data, count, min(count // 4, 1 << 16), 2, 1 << 16, lambda counts: 2 * counts, _body)
+
+
+def parts(
+    data: Reader,
+    count: int,
+    most: int,
+    key_size: int,
+    most_ids: int,
+    most_bytes: Callable[[np.ndarray], np.ndarray],
+    test_body: Callable[[bytes, int, int, int, int], None],
+) -> None:
+    """The chunks of a set, or the words of a wide one, at most as many: their number, sizes, keys, ends, sums and bodies."""
     at = data.at
-    chunks = data.number(1)
-    need(chunks <= min(count // 4, 1 << 16), "BadNumber", at)
+    number = data.number(1)
+    need(number <= most, "BadNumber", at)
     sizes_at = data.at
     sizes = data.byte()
     end_size, sum_size = sizes % 16, sizes // 16
     need(1 <= end_size <= 4 and 1 <= sum_size <= 4, "BadSizes", sizes_at)
-    need(data.left() >= chunks * (2 + end_size + sum_size), "Short", len(data.data))
-    places = data.at, data.at + 2 * chunks, data.at + (2 + end_size) * chunks
-    keys, ends, sums = (integers(data.rows(chunks, size)).astype("i8") for size in (2, end_size, sum_size))
+    need(data.left() >= number * (key_size + end_size + sum_size), "Short", len(data.data))
+    at = data.at
+    keys, ends, sums = (integers(data.rows(number, size)).astype("i8") for size in (key_size, end_size, sum_size))
     counts, lengths = np.diff(sums, prepend=0), np.diff(ends, prepend=0)
-    _directory(keys, counts, lengths, int(sums[-1]) == count, places, (end_size, sum_size))
+    bad_keys, bad_sums = np.diff(keys, prepend=-1) <= 0, (counts < 1) | (counts > most_ids)
+    bad_sums[-1] |= int(sums[-1]) != count
+    bad_ends = (lengths < 1) | (lengths > most_bytes(counts))
+    for m in np.flatnonzero(bad_keys | bad_sums | bad_ends)[:1].tolist():
+        need(not bad_keys[m], "BadKey", at + key_size * m, m)
+        need(not bad_sums[m], "BadSum", at + (key_size + end_size) * number + sum_size * m, m)
+        raise Found("BadOffset", at + key_size * number + end_size * m, m)
     least = [max(1, (int(it).bit_length() + 7) // 8) for it in (ends[-1], count)]
     need([end_size, sum_size] == least, "BadSizes", sizes_at)
     need(data.left() >= int(ends[-1]), "Short", len(data.data))
     for m, (ids, length) in enumerate(zip(counts.tolist(), lengths.tolist())):
-        _body(data.data[data.at : data.at + length], ids, m, data.at, int(sums[m]) - ids)
+        test_body(data.data[data.at : data.at + length], ids, m, data.at, int(sums[m]) - ids)
         data.at += length
-
-
-def _directory(
-    keys: np.ndarray, counts: np.ndarray, lengths: np.ndarray, is_all: bool, places: Tuple[int, int, int], sizes: Tuple[int, int]
-) -> None:
-    """The keys, the sums and the ends of the chunks: the first wrong one."""
-    bad_keys = np.diff(keys, prepend=-1) <= 0
-    bad_sums = (counts < 1) | (counts > 1 << 16)
-    bad_sums[-1] |= not is_all
-    bad_ends = (lengths < 1) | (lengths > 2 * counts)
-    for m in np.flatnonzero(bad_keys | bad_sums | bad_ends)[:1].tolist():
-        need(not bad_keys[m], "BadKey", places[0] + 2 * m, m)
-        need(not bad_sums[m], "BadSum", places[2] + sizes[1] * m, m)
-        raise Found("BadOffset", places[1] + sizes[0] * m, m)
 
 
 def _body(body: bytes, count: int, m: int, at: int, before: int) -> None:
     """The body of chunk m, which has as many numbers, after so many ids."""
     if len(body) == 2 * count:
         numbers = integers(np.frombuffer(body, "u1").reshape(count, 2))
-        _increasing(numbers, at, 2, before, m)
+        increasing(numbers, at, 2, before, m)
         need(_blocks_size(numbers) >= 2 * count, "LooseBody", at, m)
     elif body[:2] == b"\x01\xff":
         boundaries = integers(np.frombuffer(body, "u1", len(body) // 2 * 2).reshape(-1, 2))[1:].astype("i8")

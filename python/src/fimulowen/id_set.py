@@ -2,20 +2,19 @@
 
 from __future__ import annotations
 
-import hashlib
 import operator
-import pickle
-from typing import Any, Iterable, Iterator, List, NamedTuple, Optional, Sequence, SupportsIndex, Tuple, Union
+from typing import Any, Iterable, List, NamedTuple, Optional, Sequence, SupportsIndex, Tuple, Union
 
 import numpy as np
 import numpy.typing as npt
 
 from . import _core, waiting
 from .errors import Error
-from .values import MOST, PART, Bytes, Integers, as_array, constant, fitted, index, room_for, targets, true_at, u32
+from .ids import Ids
+from .values import IDS, MOST, PART, Bytes, Integers, as_array, as_kind, constant, fitted, index, room_for, targets, true_at
 
 INTERSECT, UNITE, SUBTRACT, XOR = range(4)
-_FEW, _MOST_GROUPS = 4096, 1 << 24
+_MOST_GROUPS = 1 << 24
 _READ = [np.dtype(it) for it in ("=u4", "=i8", "=u8")]
 Mask = Iterable[Union[bool, np.bool_]]
 
@@ -32,7 +31,7 @@ class Description(NamedTuple):
     runs: int
 
 
-class IdSet(_core.Set):
+class IdSet(Ids[np.uint32], _core.Set):
     """A set of integers from 0 to 4294967295, its ids, in packed bytes. It does not change.
 
     `IdSet(ids)` packs an array or an iterable of integers. They may be in any order, and one may be there twice; increasing ones take the least
@@ -40,7 +39,7 @@ class IdSet(_core.Set):
     that is no integer from 0 to 4294967295. Error if there are more than 268,435,456 ids."""
 
     __slots__ = ()
-    __array_ufunc__ = None  # array & set must not be a bitwise AND of numbers
+    _NAME, _FORMAT, _NO_ID = "IdSet", "I", np.int64(-1)
 
     def __new__(cls, ids: Integers = ()) -> IdSet:
         if hasattr(ids, "_node"):
@@ -49,7 +48,7 @@ class IdSet(_core.Set):
             return ids if type(ids) is cls else cls.open(ids.data)
         if isinstance(ids, range) and ids.step == 1 and 0 <= ids.start < ids.stop <= 1 << 32:
             return _core.set_range(cls, ids.start, ids.stop)
-        return cls._packed(u32(ids))
+        return cls._packed(as_kind(ids, IDS))
 
     @classmethod
     def _packed(cls, ids: npt.NDArray[np.uint32]) -> IdSet:
@@ -59,13 +58,6 @@ class IdSet(_core.Set):
             return made
         parts = [_core.set_pack(cls, np.unique(ids[at : at + PART])) for at in range(0, len(ids), PART)]
         return parts[0] if len(parts) == 1 else joined(UNITE, parts, cls)
-
-    @classmethod
-    def open(cls, data: Bytes) -> IdSet:
-        """Opens the bytes of a set, of any object with a buffer. It tests all of them, and raises Error with the first fault. Memory that
-        nothing can write (bytes, a map that is read only) is held, and must not change; other memory is copied."""
-        held = constant(data)
-        return waiting.run(memoryview(held).nbytes, _core.set_open, cls, held)
 
     @classmethod
     def from_roaring(cls, data: Bytes) -> IdSet:
@@ -93,11 +85,6 @@ class IdSet(_core.Set):
         bytes end before the set does. It tests no more: `open` these bytes then."""
         return _core.set_front_len(constant(data))
 
-    @classmethod
-    def open_many(cls, data: Bytes, bounds: Integers) -> List[IdSet]:
-        """The sets at data[bounds[i]:bounds[i + 1]], which all share the one buffer. Error, with the number of the set."""
-        return _core.set_open_many(cls, constant(data), index(bounds))
-
     @staticmethod
     def pack_many(ids: Integers, bounds: Integers) -> Tuple[bytes, npt.NDArray[np.int64]]:
         """Packs the set of ids[bounds[i]:bounds[i + 1]] for each i. Returns the bytes of all sets, and the bounds of the sets in them. The ids
@@ -105,7 +92,7 @@ class IdSet(_core.Set):
 
         IndexError if the bounds fall or lie outside of the ids. Error, with the number of the set, and the position in it of the first id that
         is not above the one before it."""
-        return _core.set_pack_many(u32(ids), index(bounds))
+        return _core.set_pack_many(as_kind(ids, IDS), index(bounds))
 
     @classmethod
     def groups(cls, codes: Integers, count: Optional[SupportsIndex] = None) -> List[IdSet]:
@@ -210,36 +197,6 @@ class IdSet(_core.Set):
         both = counted(INTERSECT, (self, one))
         return both / (len(self) + len(one) - both) if both or self or one else 1.0
 
-    def __hash__(self) -> int:
-        found = hashlib.blake2b(digest_size=8)
-        for at in range(0, self.nbytes, PART):
-            found.update(self.data[at : at + PART])
-        return hash(found.digest())
-
-    def __iter__(self) -> Iterator[int]:
-        for start in range(0, len(self), _FEW):
-            yield from self[start : start + _FEW].tolist()
-
-    def __repr__(self) -> str:
-        shown = ", ".join(map(str, self[:6].tolist())) + (", .." if len(self) > 6 else "")
-        return f"<IdSet of {len(self)} ids in {self.nbytes} bytes: [{shown}]>"
-
-    def __array__(self, dtype: npt.DTypeLike = None, copy: Optional[bool] = None) -> np.ndarray:
-        if copy is False:
-            raise ValueError("the ids of a set are always copied")
-        return self.unpack(dtype=dtype)
-
-    def __arrow_c_schema__(self) -> object:
-        return _core.arrow_schema("I", False)
-
-    def __arrow_c_array__(self, requested_schema: object = None) -> Tuple[object, object]:
-        """The ids, as an array of uint32 of Arrow."""
-        return self.__arrow_c_schema__(), _core.arrow_array(self.unpack(), None, 0)
-
-    def __reduce_ex__(self, protocol: Any) -> Tuple[Any, ...]:
-        # The attributes of an instance of a subclass are its state.
-        return type(self).open, (pickle.PickleBuffer(self.data) if protocol >= 5 else self.tobytes(),), getattr(self, "__dict__", None)
-
     def unpack(self, out: Optional[np.ndarray] = None, dtype: npt.DTypeLike = None) -> np.ndarray:
         """All ids, as an array of uint32, or of another type: OverflowError if an id does not fit it. They go to the front of `out` if there is
         one: an array in C order of uint32, int64 or uint64, with room for all. Returns the part of it that has them."""
@@ -249,23 +206,6 @@ class IdSet(_core.Set):
         elif out is None:
             return self[:] if dtype is None else fitted(self[:], wanted)
         return room_for(len(self), out, dtype)[: self._read(out)]
-
-    def min(self) -> int:
-        """The least id. ValueError if there is none."""
-        return self._end(0)
-
-    def max(self) -> int:
-        """The greatest id. ValueError if there is none."""
-        return self._end(-1)
-
-    def _end(self, at: int) -> int:
-        if not len(self):
-            raise ValueError("the set has no id")
-        return self[at]
-
-    def range(self, low: SupportsIndex, high: SupportsIndex) -> npt.NDArray[np.uint32]:
-        """The ids from low up to high, which is not one of them, as an array."""
-        return self[self.rank(low) : self.rank(high)]
 
     def count_between(self, low: SupportsIndex, high: SupportsIndex) -> int:
         """How many ids are from low to high, both included."""
@@ -280,10 +220,6 @@ class IdSet(_core.Set):
         """
         return Description(*self._describe())
 
-    def gather(self, positions: Integers) -> npt.NDArray[np.uint32]:
-        """The ids at positions in any order, as an array; those below 0 count from the end. IndexError if one is not in the set."""
-        return self._gather(index(positions, len(self)))
-
     def contains(self, ids: Integers) -> npt.NDArray[np.bool_]:
         """Whether the set has each of many integers, as an array."""
         array = as_array(ids)
@@ -293,16 +229,10 @@ class IdSet(_core.Set):
     def _rank_many(self, values: Integers) -> npt.NDArray[np.int64]:
         return self._rank(targets(values))
 
-    def _seek_many(self, values: Integers) -> Tuple[npt.NDArray[np.int64], npt.NDArray[np.int64]]:
-        at = self._rank_many(values)
-        ids, there = np.full(len(at), -1, "=i8"), at < len(self)
-        ids[there] = self[:][at[there]] if 16 * len(at) > len(self) else self._gather(at[there])
-        return at, ids
-
     def append(self, ids: Integers) -> IdSet:
         """A set with these ids too, which increase, and are all above the greatest id. It copies the packed bytes, and unpacks few of them. Error,
         with the position of the first id that is not above the one before it; `self | ids` accepts any."""
-        more = u32(ids)
+        more = as_kind(ids, IDS)
         return waiting.run(len(self) + len(more), _core.set_append, IdSet, self, more)
 
 
@@ -314,6 +244,8 @@ def _count(count: SupportsIndex) -> int:
 
 
 def as_set(it: Integers) -> IdSet:
+    if isinstance(it, _core.WideSet):
+        raise TypeError("an IdSet expected: IdSet64 has no set operations")
     return it if isinstance(it, IdSet) else IdSet(it)
 
 
@@ -334,6 +266,7 @@ def joined(call: int, sets: Iterable[Integers], kind: type = IdSet) -> Any:
 
 
 def _joined(call: int, one: Any, other: Any) -> Any:
-    if not hasattr(one, "__iter__") or not hasattr(other, "__iter__") or hasattr(other, "_node"):
-        return NotImplemented  # a query joins what is on its left too
+    # A query joins what is on its left too; IdSet64 has no set operations.
+    if hasattr(other, "_node") or not all(hasattr(it, "__iter__") and not isinstance(it, _core.WideSet) for it in (one, other)):
+        return NotImplemented
     return joined(call, (one, other))

@@ -8,7 +8,7 @@ import mmap
 import operator
 import pickle
 from itertools import islice
-from typing import Any, Callable, Iterable, Iterator, NoReturn, Optional, Sequence, SupportsIndex, Tuple, Union
+from typing import Any, Callable, Iterable, Iterator, NamedTuple, NoReturn, Optional, Sequence, SupportsIndex, Tuple, Union
 
 import numpy as np
 import numpy.typing as npt
@@ -20,7 +20,22 @@ Integers = Iterable[SupportsIndex]
 Bytes = Union[bytes, bytearray, memoryview, mmap.mmap, np.ndarray, array.array, pickle.PickleBuffer]
 KINDS = {"plain": 0, "sorted": 1, "strict": 2}
 PART, MOST = 1 << 20, 1 << 28
-_GREATEST, _LEAST = 0xFFFFFFFF, -(1 << 63)
+_GREATEST, _LEAST, _WIDEST = 0xFFFFFFFF, -(1 << 63), (1 << 64) - 1
+
+
+class Kind(NamedTuple):
+    """Integers from 0 to the greatest of a type, and what the error for a greater one says."""
+
+    dtype: np.dtype
+    greatest: int
+    hint: str = ""
+
+
+_U32, IDS, WIDE_IDS = (
+    Kind(np.dtype("=u4"), _GREATEST),
+    Kind(np.dtype("=u4"), _GREATEST, ": IdSet64 has ids of 64 bits"),
+    Kind(np.dtype("=u8"), _WIDEST),
+)
 
 
 def is_constant(data: Any) -> bool:
@@ -46,19 +61,24 @@ def constant(data: Any) -> Any:
 
 
 def u32(values: Any) -> npt.NDArray[np.uint32]:
-    """Integers from 0 to 4294967295 as an array of uint32. TypeError or OverflowError, with the position and the value of the first that is
-    none. Only memory that nothing can write is not copied."""
+    """Integers from 0 to 4294967295 as an array of uint32."""
+    return as_kind(values, _U32)
+
+
+def as_kind(values: Any, kind: Kind) -> npt.NDArray[Any]:
+    """Integers as an array of a kind. TypeError or OverflowError, with the position and the value of the first that is none of it. Only memory that
+    nothing can write is not copied."""
     array = as_array(values)
     if isinstance(values, range) and len(values) > MOST:
         raise Error("More than 268,435,456 values.", "TooLong")
     if array is None:
-        parts = [_u32_of(part, at) for at, part in _parts(values)]
-        return np.concatenate(parts) if parts else np.empty(0, "=u4")
-    if array.dtype == np.dtype("=u4") and array.flags.c_contiguous and array.flags.aligned and is_constant(array):
+        parts = [_of_kind(part, at, kind) for at, part in _parts(values)]
+        return np.concatenate(parts) if parts else np.empty(0, kind.dtype)
+    if array.dtype == kind.dtype and array.flags.c_contiguous and array.flags.aligned and is_constant(array):
         return array
-    out = np.empty(len(array), "=u4")
+    out = np.empty(len(array), kind.dtype)
     for at in range(0, len(array), PART):
-        out[at : at + PART] = _u32_of(array[at : at + PART], at)
+        out[at : at + PART] = _of_kind(array[at : at + PART], at, kind)
     return out
 
 
@@ -74,6 +94,14 @@ def index(positions: Any, length: int = 0) -> npt.NDArray[np.int64]:
 def targets(values: Any) -> npt.NDArray[np.int64]:
     """Integers to search for, as a new array of int64: one below 0 becomes 0, one above all ids 2^32."""
     return _wide(values, _clipped)
+
+
+def nearest(values: Any) -> Tuple[npt.NDArray[np.uint64], npt.NDArray[np.bool_]]:
+    """Integers to search for, as new arrays: the nearest one of 64 bits to each, and whether that is another number."""
+    array = as_array(values)
+    parts = [_nearest(part, at) for at, part in (_parts(values) if array is None else [(0, array)])]
+    near, other = zip(*parts) if parts else ([np.empty(0, "=u8")], [np.empty(0, bool)])
+    return np.concatenate(near), np.concatenate(other)
 
 
 def _wide(values: Any, convert: Callable[[np.ndarray, int], npt.NDArray[np.int64]]) -> npt.NDArray[np.int64]:
@@ -122,7 +150,7 @@ def need_fit(numbers: Sequence[int], dtype: np.dtype) -> None:
         raise OverflowError(f"the values from {min(numbers)} to {max(numbers)} do not fit {dtype}")
 
 
-def fitted(ids: npt.NDArray[np.uint32], dtype: np.dtype) -> np.ndarray:
+def fitted(ids: npt.NDArray[Any], dtype: np.dtype) -> np.ndarray:
     """Increasing ids as an array of another type. OverflowError if it lacks one."""
     need_fit([int(ids[0]), int(ids[-1])] if len(ids) else [], dtype)
     return ids.astype(dtype, copy=False)
@@ -198,19 +226,28 @@ def objects_of(part: Any) -> np.ndarray:
     return array
 
 
-def _u32_of(part: np.ndarray, at: int) -> np.ndarray:
-    """The values of a part as uint32."""
+def _of_kind(part: np.ndarray, at: int, kind: Kind) -> np.ndarray:
+    """The values of a part as the type of a kind."""
     if part.dtype == object:
-        return np.array([_id_of(it, at + i) for i, it in enumerate(part)], "=u4")
-    if part.dtype != np.uint32 and part.size and not (part.min() >= 0 and part.max() <= _GREATEST):
-        first = int(np.flatnonzero((part < 0) | (part > _GREATEST))[0])
-        _refuse(at + first, part[first])
-    return part.astype("=u4")
+        return np.array([_fit(it, at + i, kind) for i, it in enumerate(part)], kind.dtype)
+    if part.dtype != kind.dtype and part.size and not (part.min() >= 0 and part.max() <= kind.greatest):
+        first = int(np.flatnonzero((part < 0) | (part > kind.greatest))[0])
+        _refuse(at + first, part[first], kind)
+    return part.astype(kind.dtype)
 
 
-def _id_of(it: Any, at: int) -> int:
+def _fit(it: Any, at: int, kind: Kind) -> int:
     value = integer(it, at)
-    return value if 0 <= value <= _GREATEST else _refuse(at, it)
+    return value if 0 <= value <= kind.greatest else _refuse(at, it, kind)
+
+
+def _nearest(part: np.ndarray, at: int) -> Tuple[npt.NDArray[np.uint64], npt.NDArray[np.bool_]]:
+    if part.dtype == object:
+        wide = [integer(it, at + i) for i, it in enumerate(part)]
+        return np.array([min(max(it, 0), _WIDEST) for it in wide], "=u8"), np.array([not 0 <= it <= _WIDEST for it in wide], bool)
+    near, below = part.astype("=u8"), part < 0
+    near[below] = 0
+    return near, below
 
 
 def _i64_of(part: np.ndarray, at: int) -> np.ndarray:
@@ -242,6 +279,6 @@ def integer(it: Any, at: int) -> int:
     raise TypeError(f"position {at}: {it!r} is not an integer{hint}")
 
 
-def _refuse(at: int, it: Any) -> NoReturn:
-    integer(it, at)
-    raise OverflowError(f"position {at}: {it} is below 0 or above {_GREATEST}")
+def _refuse(at: int, it: Any, kind: Kind = _U32) -> NoReturn:
+    hint = kind.hint if kind.greatest < integer(it, at) <= _WIDEST else ""
+    raise OverflowError(f"position {at}: {it} is below 0 or above {kind.greatest}{hint}")
