@@ -4,7 +4,7 @@ import pickle
 
 import numpy as np
 import pytest
-from fimulowen import Error, IdSet
+from fimulowen import Error, IdSet, IdSet64
 
 ROUNDS = 1000
 
@@ -24,15 +24,16 @@ def damaged(random, text):
 
 
 @pytest.mark.parametrize("most", [127, 3000])
-def test_damaged(most):
+@pytest.mark.parametrize("kind, bits", [(IdSet, 12), (IdSet64, 44)])
+def test_damaged(kind, bits, most):
     random = np.random.default_rng(most)
     opened, faults = 0, set()
     for _ in range(ROUNDS):
         count = int(random.integers(1, most))
-        ids = random.choice(count * 2 ** random.integers(1, 9) + 1, count, replace=False) * 2 ** random.integers(0, 12)
-        bad = damaged(random, IdSet(ids).tobytes())
+        ids = random.choice(count * 2 ** random.integers(1, 9) + 1, count, replace=False) * 2 ** random.integers(0, bits)
+        bad = damaged(random, kind(ids).tobytes())
         try:
-            packed = IdSet.open(bad)
+            packed = kind.open(bad)
         except Error as error:
             faults.add(error.fault)
             assert isinstance(error, ValueError) and error.fault in str(error)
@@ -42,7 +43,7 @@ def test_damaged(most):
             assert vars(again) == vars(error) and str(again) == str(error)
         else:
             opened += 1
-            assert IdSet(packed.unpack()).tobytes() == bad
+            assert kind(packed.unpack()).tobytes() == bad
     assert 0 < opened < ROUNDS and len(faults) > 5
 
 
@@ -79,3 +80,42 @@ def test_places():
         IdSet.open(b"\x80" + bytes(1 << 20))
     assert (raised.value.fault, raised.value.byte) == ("Trailing", None)  # too long to be read again
     assert str(error).endswith("(Short, byte 43)")
+
+
+def test_wide_places():
+    """Worked by hand from docs/FORMAT.md."""
+    equal = "08100211 0100000001000000 0708 0810 8800 8800"  # two words, both 1
+    for text, place in {
+        "": ("Short", None, 0, None),
+        "05": ("BadVersion", None, 0, None),
+        "0985": ("Short", None, 1, None),
+        "098500": ("BadNumber", None, 1, None),
+        "098180808001": ("TooLong", None, 1, None),
+        "0901": ("Short", None, 2, None),
+        "0901 4105 05000000": ("BadKind", None, 2, None),
+        "0901 60 05000000": ("BadSum", None, 2, None),
+        "0901 6100 00 05000000": ("Trailing", None, 2, None),
+        "0903 63FFFFFFFF0F0203 000000000000000000000000": ("NotSorted", None, 2, None),
+        "0902 620000 05000000 05000000": ("NotSorted", None, 9, 1),
+        "0908 680000" + "".join(f"{it:02x}000000" for it in range(8)): ("LooseForm", None, 2, None),
+        "0808": ("Short", None, 2, None),
+        "080700": ("BadNumber", None, 2, None),
+        "080802": ("BadNumber", None, 2, None),
+        "080801": ("Short", None, 3, None),
+        "08080110": ("BadSizes", None, 3, None),
+        "08080111": ("Short", None, 4, None),
+        equal: ("BadKey", 1, 8, None),
+        "08080111 01000000 07 07": ("BadSum", 0, 9, None),
+        "08080111 01000000 00 08": ("BadOffset", 0, 8, None),
+        "08080112 01000000 0700 08": ("BadSizes", None, 3, None),
+        "08080111 01000000 07 08": ("Short", None, 10, None),
+        "08080111 01000000 07 08 8780E497D00200": ("BadBody", 0, 10, None),
+        "08080111 01000000 07 08 8880E497D0020000": ("Trailing", None, 17, None),
+    }.items():
+        with pytest.raises(Error) as raised:
+            IdSet64.open(bytes.fromhex(text))
+        error = raised.value
+        assert (error.fault, error.part, error.byte, error.position) == place, text
+    with pytest.raises(Error) as raised:
+        IdSet64.open(bytes.fromhex("090060") + bytes(1 << 20))
+    assert (raised.value.fault, raised.value.byte) == ("Trailing", None)  # too long to be read again

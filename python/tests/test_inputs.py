@@ -5,10 +5,10 @@ import array
 import fimulowen
 import numpy as np
 import pytest
-from fimulowen import Column, Error, IdSet, Query
+from fimulowen import Column, Error, IdSet, IdSet64, Query
 
 D, T = np.datetime64, np.timedelta64
-MOST = 2**32 - 1
+MOST, WIDEST = 2**32 - 1, 2**64 - 1
 INTEGERS = ["i1", "u1", "i2", "u2", "i4", "u4", "i8", "u8", ">i2", ">u4", ">i8", ">u8"]
 TYPES = [*INTEGERS, "f2", "f4", "f8", "g", "c8", "?", "O", "U20", "S3", "V4", "M8[s]", "m8[s]"]
 
@@ -49,7 +49,7 @@ def plain(found):
     """An answer as lists and numbers."""
     if isinstance(found, tuple):
         return [plain(it) for it in found]
-    return list(found) if isinstance(found, (IdSet, Column, Query)) else found.tolist() if isinstance(found, np.ndarray) else found
+    return list(found) if isinstance(found, (IdSet, IdSet64, Column, Query)) else found.tolist() if isinstance(found, np.ndarray) else found
 
 
 def outcome(call, *given):
@@ -67,9 +67,9 @@ def integers(values):
     return values
 
 
-def ids(values):
+def ids(values, most=MOST):
     """The ids of a list, or the error of a call that needs ids."""
-    if any(not 0 <= it <= MOST for it in integers(values)):
+    if any(not 0 <= it <= most for it in integers(values)):
         raise OverflowError
     return set(values)
 
@@ -112,6 +112,8 @@ def blocks(values):
 
 KNOWN = {1, 5, MOST}
 SET, SMALL, COLUMN = IdSet(KNOWN), IdSet([0, 4]), Column([7, -7, 2**40])
+WIDE_KNOWN = [1, 5, 2**63, WIDEST]
+WIDE = IdSet64(WIDE_KNOWN)
 BYTES = IdSet([7, 9, 10, 300]).tobytes()
 # Each call that takes integers, beside a model.
 CALLS = {
@@ -142,6 +144,14 @@ CALLS = {
     "pack_many": (lambda it: IdSet.open_many(*IdSet.pack_many(it, [0, 0]))[0], lambda it: sorted(ids(it))[:0]),
     "bounds": (lambda it: len(IdSet.open_many(BYTES, it)), lambda it: len(bounds(it)) - 1),
     "gather": (SET.gather, lambda it: at(it, sorted(KNOWN))),
+    "IdSet64": (IdSet64, lambda it: sorted(ids(it, WIDEST))),
+    "gather of 64": (WIDE.gather, lambda it: at(it, WIDE_KNOWN)),
+    "contains of 64": (WIDE.contains, lambda it: [one in WIDE_KNOWN for one in integers(it)]),
+    "rank of 64": (WIDE.rank, lambda it: [sum(known < value for known in WIDE_KNOWN) for value in integers(it)]),
+    "seek of 64": (
+        lambda it: WIDE.seek(it)[1],
+        lambda it: [min([one for one in WIDE_KNOWN if one >= value] or [WIDEST]) for value in integers(it)],
+    ),
     "contains": (SET.contains, lambda it: [one in KNOWN for one in integers(it)]),
     "gather of a column": (COLUMN.gather, lambda it: at(it, list(COLUMN))),
     "chain": (lambda it: fimulowen.chain.pack(it)[0], blocks),
@@ -156,6 +166,9 @@ VALUES = [
     [1, -1],
     [1, 0, 2],
     [1, MOST + 1],
+    [WIDEST, 2**63 - 1, 1],
+    [WIDEST, -1],
+    [WIDEST + 1, 5],
     [-(2**63), 2**63 - 1],
     [2**63, 1],
     [2**63, -1],
@@ -192,7 +205,7 @@ def test_integers(name, values):
 
 
 @pytest.mark.parametrize(
-    "number", [0, 1, 2, 5, 6, -1, -3, -4, MOST, MOST + 1, 2**63 - 1, 2**63, -(2**63), 2**64, -(2**64), 10**30]
+    "number", [0, 1, 2, 5, 6, -1, -3, -4, MOST, MOST + 1, 2**63 - 1, 2**63, -(2**63), WIDEST, 2**64, -(2**64), 10**30]
 )
 def test_one_number(number):
     """A target, or a position, as an integer of Python and of each type that has it."""
@@ -200,6 +213,11 @@ def test_one_number(number):
     later, before = [it for it in ids if it >= number], [it for it in ids if it < number]
     for form in [number, *(np.dtype(it).type(number) for it in INTEGERS if fits([number], it))]:
         assert SET.seek(form) == ((len(before), later[0]) if later else None) and SET.rank(form) == len(before)
+        later, before = [it for it in WIDE_KNOWN if it >= number], [it for it in WIDE_KNOWN if it < number]
+        assert WIDE.seek(form) == ((len(before), later[0]) if later else None) and WIDE.rank(form) == len(before)
+        assert (form in WIDE) == (number in WIDE_KNOWN) and WIDE.range(form, 10**30).tolist() == later
+        assert WIDE.range(-(10**30), form).tolist() == before and outcome(lambda: WIDE[form]) == outcome(lambda: WIDE_KNOWN[number])
+        later, before = [it for it in ids if it >= number], [it for it in ids if it < number]
         assert (
             (form in SET) == (number in KNOWN)
             and SET.range(form, 10**30).tolist() == later
@@ -217,12 +235,13 @@ def test_one_number(number):
 def test_no_number(wrong):
     query = Query(SET)
     for call in [
-        *([SET.seek, SET.rank] if not isinstance(wrong, list) else []),
+        *([SET.seek, SET.rank, WIDE.seek, WIDE.rank] if not isinstance(wrong, list) else []),
         lambda it: SET.range(it, 9),
         lambda it: SET.count_between(it, 9),
         lambda it: SET.count_between(0, it),
         lambda it: SET.range(0, it),
         SET.__getitem__,
+        WIDE.__getitem__,
         COLUMN.__getitem__,
         query.seek,
     ]:
@@ -230,7 +249,7 @@ def test_no_number(wrong):
             call(wrong)
     with pytest.raises(TypeError):
         next(query.parts(wrong))
-    assert wrong not in SET
+    assert wrong not in SET and wrong not in WIDE
 
 
 NO_ITERABLES = ["", "12", b"", b"12", bytearray(b"1"), memoryview(b"1"), 5, 1.5, None, True, np.uint32(5), np.array(5)]
@@ -240,7 +259,7 @@ NO_ITERABLES = ["", "12", b"", b"12", bytearray(b"1"), memoryview(b"1"), 5, 1.5,
 @pytest.mark.parametrize("name", [*CALLS, "Column", "append to a column"])
 def test_no_iterable(name, wrong):
     call = CALLS[name][0] if name in CALLS else Column if name == "Column" else COLUMN.append
-    if name == "rank" and hasattr(wrong, "__index__"):
-        return  # it counts the ids below one number too
+    if name in ("rank", "rank of 64", "seek of 64") and hasattr(wrong, "__index__"):
+        return  # it searches for one number too
     with pytest.raises(TypeError):
         call(wrong)

@@ -8,7 +8,8 @@ import tracemalloc
 
 import fimulowen
 import numpy as np
-from fimulowen import Error, IdSet, Query, chain
+import pytest
+from fimulowen import Error, IdSet, IdSet64, Query, chain
 
 
 def resident():
@@ -53,6 +54,49 @@ def sets_round(ids, text, bounds):
     query = (Query(packed) & other | alone) - packed ^ [5]
     list(query), len(query), query.seek(70), query.unpack()
     chain.unpack(*chain.pack(ids[:1024], kind="strict"), kind="strict")
+
+
+def wide_round(ids, text, bounds):
+    """Each call of wide sets, with one word and with many, and each error."""
+    for step in (1, 1 << 40):
+        wide = ids[:2000] * np.uint64(step) + np.uint64(1 << 40)
+        packed, out, far = IdSet64(wide), np.empty(len(wide), "i8"), int(wide[-1]) + 1
+        packed.unpack(), packed.unpack(out), packed.unpack(dtype="f8"), packed[3:900:7], packed[::600], packed[-1], list(packed[::-1])
+        packed.seek(500), packed.seek(far), packed.rank(1 << 63), packed.range(50, far), packed.min(), packed.max(), len(packed)
+        packed.gather([3, -1]), packed.contains(wide), packed.contains([5, -1, 1 << 70]), packed.rank(wide), packed.seek(
+            [5, far]
+        ), 5 in packed
+        packed == IdSet64(wide[::-1]), packed != IdSet64(wide[5:]), hash(packed), repr(packed), np.asarray(packed), 1 << 70 in packed
+        IdSet64(packed), IdSet64(wide.tolist()), IdSet64(IdSet(ids)), IdSet64.open(bytearray(packed.data)), IdSet64(range(far, far + 9))
+        IdSet64.open_many(packed.tobytes(), [0, packed.nbytes]), pickle.loads(pickle.dumps(packed, 5)), copy.copy(packed)
+        pickle.loads(pickle.dumps(packed, 2)), packed.data.tobytes(), packed.__arrow_c_array__(), packed.__arrow_c_schema__()
+        bad = packed.tobytes()
+        for call in [
+            lambda: IdSet64.open(bad[:-1]),
+            lambda: IdSet64.open(bytearray(bad[: len(bad) // 2])),
+            lambda: IdSet64.open(bad + bad),
+            lambda: IdSet64.open(text),
+            lambda: IdSet64.open(None),
+            lambda: IdSet64.open_many(bad, [0, 4]),
+            lambda: IdSet64([-1]),
+            lambda: IdSet64([1 << 64]),
+            lambda: IdSet64(["a"]),
+            lambda: IdSet(packed),
+            lambda: packed[1 << 40],
+            lambda: packed.gather([len(wide)]),
+            lambda: packed.seek("a"),
+            lambda: packed.rank(["a"]),
+            lambda: packed.contains([0.5]),
+            lambda: packed & packed,
+            lambda: IdSet(ids) | packed,
+            lambda: packed < packed,
+            lambda: IdSet64([1 << 63]).unpack(out),
+            lambda: packed.unpack(np.empty(3, "u8")),
+            lambda: packed.unpack(np.empty(len(wide), "f8")),
+            lambda: fimulowen._core.set_pack(IdSet64, ids.copy()),
+            lambda: fimulowen._core.wide_high_words(5),
+        ]:
+            refused(call)
 
 
 def refused_round(ids, text, bounds):
@@ -127,7 +171,7 @@ def refused_round(ids, text, bounds):
 
 BITMAP = bytes.fromhex("3B30000001000009000100000009 00")
 TABLE = np.repeat(np.arange(3), 256).reshape(3, 256)
-ROUNDS = [sets_round, refused_round]
+ROUNDS = [sets_round, wide_round, refused_round]
 
 
 def test_constant():
@@ -149,9 +193,9 @@ def test_constant():
 
 def test_slices():
     """A slice with a step holds no more than what it shows, and one of few ids unpacks no others."""
-    packed, column = IdSet(range(4_000_000)), fimulowen.Column(range(1_000_000))
+    packed, wide_ids, column = IdSet(range(4_000_000)), IdSet64(range(2**40, 2**40 + 4_000_000)), fimulowen.Column(range(1_000_000))
     tracemalloc.start()
-    for it, most in ((packed, 10_000), (column, 40_000)):
+    for it, most in ((packed, 10_000), (wide_ids, 10_000), (column, 40_000)):
         for step in (100_000, -100_000, 2, -2, 511, 512, 513, 15, 16, 17):
             found, wide = it[::step], it.unpack().itemsize
             while found.base is not None:
@@ -164,21 +208,22 @@ def test_slices():
     tracemalloc.stop()
 
 
-def test_references():
+@pytest.mark.parametrize("kind", [IdSet, IdSet64])
+def test_references(kind):
     """A set gives its buffer back, and keeps no more of it than one."""
-    text = IdSet(range(1000)).tobytes()
+    text = kind(range(1000)).tobytes()
     before = sys.getrefcount(text)
-    packed = IdSet.open(text)
+    packed = kind.open(text)
     assert sys.getrefcount(text) > before
     view = packed.data
     del packed
-    assert sys.getrefcount(text) > before and IdSet.open(view)[-1] == 999
+    assert sys.getrefcount(text) > before and kind.open(view)[-1] == 999
     del view
     assert sys.getrefcount(text) == before
-    many = IdSet.open_many(text, [0, len(text)])
+    many = kind.open_many(text, [0, len(text)])
     del many
     assert sys.getrefcount(text) == before
-    types = [sys.getrefcount(it) for it in (IdSet, fimulowen._core.Set, fimulowen._core.Packed)]
+    types = [sys.getrefcount(it) for it in kind.__mro__[:-1]]
     for _ in range(100):
-        IdSet.open(text), IdSet([1]).data
-    assert [sys.getrefcount(it) for it in (IdSet, fimulowen._core.Set, fimulowen._core.Packed)] == types
+        kind.open(text), kind([1]).data
+    assert [sys.getrefcount(it) for it in kind.__mro__[:-1]] == types

@@ -9,7 +9,7 @@ import time
 import fimulowen
 import numpy as np
 import pytest
-from fimulowen import IdSet, _core
+from fimulowen import IdSet, IdSet64, _core
 
 from bitmaps import bitmap
 from test_id_set import RANDOM
@@ -52,6 +52,9 @@ class Long:
         self.positions, self.far = np.arange(len(self.ids)), np.arange(50_000)
         self.out, self.wide, self.blocks = np.empty(len(self.ids), "u4"), np.empty(len(self.ids), "i8"), self.ids[: 1 << 19]
         self.chain = _core.chain_pack(self.blocks, 0, 4, 0)
+        self.wide_ids = self.ids.astype("u8") << np.uint64(20)
+        self.c, self.wide_copy = IdSet64(self.wide_ids), IdSet64(self.wide_ids)
+        self.wide_data = self.c.tobytes()
 
 
 @pytest.fixture(scope="module")
@@ -90,6 +93,15 @@ UNLOCKED = {
     "==": lambda it: it.a == it.copy,
     "<=": lambda it: it.a <= it.copy,
     "isdisjoint": lambda it: it.even._is_disjoint(it.odd),
+    "set_pack of 64": lambda it: _core.set_pack(IdSet64, it.wide_ids),
+    "set_open of 64": lambda it: _core.set_open(IdSet64, it.wide_data),
+    "slice of 64": lambda it: it.c[:],
+    "slice of 64 with a step": lambda it: it.c[::500],
+    "unpack of 64": lambda it: it.c._read(it.wide),
+    "gather of 64": lambda it: it.c._gather(it.positions),
+    "contains of 64": lambda it: it.c._contains(it.wide_ids),
+    "rank of 64": lambda it: it.c._rank(it.wide_ids),
+    "== of 64": lambda it: it.c == it.wide_copy,
     "chain.pack": lambda it: _core.chain_pack(it.blocks, 0, 4, 0),
     "chain.unpack": lambda it: _core.chain_unpack(*it.chain, 0, 4, 0),
 }
@@ -169,6 +181,8 @@ class Longer:
         self.codes = self.mixed.astype("i8") % 200
         steps = np.arange(9)[:, None] * (300 - np.arange(256))
         self.term = fimulowen.Term(self.a, self.ids % 9, steps)
+        self.wide_ids = self.ids.astype("u8") << np.uint64(12)
+        self.wide = IdSet64(self.wide_ids)
 
 
 @pytest.fixture(scope="module")
@@ -179,6 +193,12 @@ def longer():
 STOPPED = {
     "IdSet of mixed ids": lambda it: IdSet(it.mixed),
     "IdSet of an iterable": lambda it: IdSet(iter(range(1 << 21))),
+    "IdSet64 of mixed ids": lambda it: IdSet64(it.wide_ids[: 1 << 22][::-1]),
+    "slice of 64": lambda it: it.wide[:],
+    "unpack of 64": lambda it: it.wide.unpack(it.out),
+    "contains of 64": lambda it: it.wide.contains(it.mixed[: 1 << 21]),
+    "rank of 64": lambda it: it.wide.rank(it.positions[: 1 << 21]),
+    "gather of 64": lambda it: it.wide.gather(it.positions[: 1 << 20]),
     "pack_many": lambda it: IdSet.pack_many(it.ids, it.bounds),
     "open_many": lambda it: IdSet.open_many(it.text, it.ends),
     "slice": lambda it: it.a[:],

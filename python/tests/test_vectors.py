@@ -5,7 +5,7 @@ import operator
 import fimulowen
 import numpy as np
 import pytest
-from fimulowen import Error, IdSet, chain
+from fimulowen import Error, IdSet, IdSet64, chain
 
 from tables import data, fault, numbers, rows
 
@@ -13,13 +13,14 @@ from tables import data, fault, numbers, rows
 PARTS = ("BadWidth", "LooseWidth", "BadKey", "BadSum", "BadOffset", "BadBody", "LooseBody")
 
 
-def test_sets():
-    found = rows("id_sets")
-    assert len(found) > 300
+@pytest.mark.parametrize("kind, dtype, name, least", [(IdSet, "u4", "id_sets", 300), (IdSet64, "u8", "wide_sets", 500)])
+def test_sets(kind, dtype, name, least):
+    found = rows(name)
+    assert len(found) > least
     for row in found:
         ids, text = numbers(row["ids"]), data(row["bytes"])
-        packed = IdSet(np.array(ids, "u4"))
-        assert packed.tobytes() == text and IdSet.open(text) == packed
+        packed = kind(np.array(ids, dtype))
+        assert packed.tobytes() == text and kind.open(text) == packed
         assert packed.unpack().tolist() == ids and packed.nbytes == len(text)
 
 
@@ -37,6 +38,22 @@ def test_refused_sets():
         assert error.position is not None or 0 <= error.byte <= len(text), row
         tried.add(name)
     assert len(tried) >= 15
+
+
+def test_refused_wide_sets():
+    """Each fault by its name, and the word or the position that the table says. A fault in the column has the byte where the column begins."""
+    tried, places = set(), set()
+    for row in rows("refused_wide_sets"):
+        text, (name, more) = data(row["bytes"]), fault(row["fault"])
+        with pytest.raises(Error, match=rf"^[A-Z].*\. \({name}, (part \d+, )?byte \d+(, position \d+)?\)$") as raised:
+            IdSet64.open(text)
+        error, in_words = raised.value, text[:1] == b"\x08"
+        assert error.fault == name and 0 <= error.byte <= len(text), row
+        assert error.part == (more[0] if in_words and name in PARTS else None), row
+        assert error.position in ([more[0], None] if name == "NotSorted" else [None]), row
+        tried.add(name)
+        places.add((name, error.position is None))
+    assert len(tried) >= 15 and {("NotSorted", True), ("NotSorted", False)} < places
 
 
 def test_bitmaps():
