@@ -28,7 +28,7 @@ MODULES = ["numpy", "hypothesis", "pytest", "setuptools", "wheel", "build", "pip
 PAGES = ["README.md", "docs/PYTHON.md", "docs/FROM-ROARING.md", "python/README.md"]
 # Mistakes that type checkers have to see, one to a line.
 MISTAKES = """\
-from fimulowen import BM25, Column, IdSet, Query, Term, best, chain, unite
+from fimulowen import BM25, Column, IdSet, IdSet64, Query, Term, best, chain, unite
 IdSet("abc")
 IdSet(1.5)
 IdSet([1.5])
@@ -38,6 +38,10 @@ IdSet() | "abc"
 IdSet().gather(5)
 IdSet().contains(["1"])
 IdSet().append([None])
+IdSet64("abc")
+IdSet64.open(5)
+IdSet64([1]) & IdSet64([2])
+IdSet64().gather(5)
 IdSet.pack_many("abc", [0])
 Query("abc")
 unite([1], 5)
