@@ -11,14 +11,6 @@ static size_t item_of(PyObject *type)
     return subtype_of(Set_type, type) ? 4 : 0;
 }
 
-/* Opens the bytes that an object holds, and tests all of them. */
-static ptrdiff_t open_held(Packed *it)
-{
-    if (is_wide(Py_TYPE((PyObject *)it)))
-        return bitpacking_wide_set_open(it->bytes, it->len, &((WideSet *)it)->view);
-    return bitpacking_set_open(it->bytes, it->len, &((Set *)it)->view);
-}
-
 /* Opens bytes, and tests all of them. */
 static PyObject *opened(PyTypeObject *type, PyObject *data, size_t from, size_t to, Py_ssize_t number)
 {
@@ -27,7 +19,10 @@ static PyObject *opened(PyTypeObject *type, PyObject *data, size_t from, size_t 
 
     if (!self)
         return NULL;
-    UNLOCKED(self->len, answer = open_held(self));
+    if (is_wide(type))
+        UNLOCKED(self->len, answer = bitpacking_wide_set_open(self->bytes, self->len, &((WideSet *)self)->view));
+    else
+        UNLOCKED(self->len, answer = bitpacking_set_open(self->bytes, self->len, &((Set *)self)->view));
     if (answer < 0) {
         fail_to_open(answer, self, number);
         Py_CLEAR(self);
