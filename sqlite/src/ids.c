@@ -97,7 +97,7 @@ uint8_t *shortened(uint8_t *bytes, size_t len)
     return shorter ? shorter : bytes;
 }
 
-/* The set that a call writes, in memory of its own. Returns how many bytes it takes. Room for so many bytes is usually enough. It doubles until it is. */
+/* The set that a call writes, in memory of its own. Returns how many bytes it takes. `room` bytes are usually enough. The room doubles until it is. */
 ptrdiff_t written(set_writer *call, const source *from, size_t items, size_t room, uint8_t **bytes)
 {
     uint32_t *work = new_ids(items);

@@ -128,7 +128,7 @@ static PyObject *set_range(PyObject *m, PyObject *args)
     return made;
 }
 
-/* The set that a call writes. Room for so many bytes is usually enough. It doubles until it is. */
+/* The set that a call writes. `room` bytes are usually enough. The room doubles until it is. */
 Packed *set_written(PyTypeObject *type, set_writer *call, const Source *from, size_t items, size_t room)
 {
     uint32_t *work = PyMem_Malloc(4 * items + 4);
