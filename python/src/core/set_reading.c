@@ -90,22 +90,24 @@ static PyObject *Set_remove(PyObject *self, PyObject *ids)
     return answer < 0 ? fail(answer) : PyLong_FromSsize_t(answer);
 }
 
-/* Its bitmap in Roaring's portable format. To measure it first takes half as long as to write it. Room for twice the bytes of the set, or for few
- * ids, is usually enough. */
+/* Its bitmap in Roaring's portable format. To measure it first takes half as long as to write it, and to copy it far less. Room for twice the bytes of
+ * the set, or for few ids, is usually enough. */
 static PyObject *Set_to_roaring(PyObject *self, PyObject *none)
 {
     size_t len = (size_t)Set_length(self), size = 2 * view_of(self)->bytes_len + FEW_ROOM, room = 0;
-    PyObject *made = NULL;
+    uint8_t *bytes = NULL;
+    PyObject *made;
 
     (void)none;
     while (size > room) {
         room = size;
-        Py_XDECREF(made);
-        if (!(made = PyBytes_FromStringAndSize(NULL, (Py_ssize_t)room)))
-            return NULL;
-        UNLOCKED(len, size = bitpacking_set_to_roaring(view_of(self), (uint8_t *)PyBytes_AsString(made), room));
+        PyMem_Free(bytes);
+        if (!(bytes = PyMem_Malloc(room)))
+            return PyErr_NoMemory();
+        UNLOCKED(len, size = bitpacking_set_to_roaring(view_of(self), bytes, room));
     }
-    _PyBytes_Resize(&made, (Py_ssize_t)size);
+    made = PyBytes_FromStringAndSize((const char *)bytes, (Py_ssize_t)size);
+    PyMem_Free(bytes);
     return made;
 }
 
