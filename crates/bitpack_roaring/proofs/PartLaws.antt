@@ -1,11 +1,10 @@
 -- The chunks of a set, one after the other: the ids from a position on are those of a chunk, and those from its end on.
-use Rattle.std.proofs.Common.{◌≡◌, ◌≢◌, ℕ, zero, suc, ◌+◌, ◌-◌, ◌*◌, ◌/◌, ◌%◌, ◌^◌, ◌<◌, ◌≤◌, Bool, cond, eqb, eq-eqb, List, [], ◌∷◌, ◌++◌, map, take, drop, length, min, get_or, refl, sym, ap, subst, ◌∙◌, arith, inl, inr, length-append, length-drop, take-append-drop}
+use Rattle.std.proofs.Common.{◌≡◌, ◌≢◌, ℕ, zero, suc, ◌+◌, ◌-◌, ◌*◌, ◌/◌, ◌%◌, ◌^◌, ◌<◌, ◌≤◌, List, [], ◌∷◌, ◌++◌, map, take, drop, length, min, get_or, refl, sym, ap, subst, ◌∙◌, arith, inl, inr, length-append, length-drop, take-append-drop}
 use Rattle.std.specs.List.{range_with_len}
-use Rattle.std.proofs.lemmas.Bool.{cases_lt, ne_eqb}
+use Rattle.std.proofs.lemmas.Bool.{cases_lt}
 use Rattle.std.proofs.lemmas.List.{drop-drop, drop_all, get_or-drop, get_or-take, length-map, length-take-le, take-append-le, take_all}
-use Rattle.bitpack_slices.proofs.ForCallers.{AreParts, bounds_rise, join_parts, parts_are, parts_join, quads_len, rank_above, rank_le, rank_under, rising_drop, rising_room, rising_top}
+use Rattle.bitpack_slices.proofs.ForCallers.{AreParts, bounds_rise, join_parts, parts_are, parts_join, quads_len, rising_drop, rising_room}
 use Rattle.bitpack_slices.specs.Bodies.{IsRising, parts}
-use Rattle.bitpack_slices.specs.Reads.{rank}
 use Rattle.bitpack_slices.specs.Runs.{boundaries}
 use Rattle.bitpack_slices.specs.Slices.{quads_of}
 use Rattle.bitpack_sets.specs.Chunks.{first_key, ids_from, lows_between, positions}
