@@ -30,6 +30,16 @@ def drawn(count):
     return found
 
 
+def with_another_byte(texts, times, within=MOST):
+    """Each text a number of times with another byte, by the rule of docs/VECTORS.md: the next number chooses its offset, within that many bytes, and the
+    one after that the byte."""
+    x = iter(drawn(5000))
+    for text in texts:
+        for _ in range(times):
+            offset, byte = next(x) // 2**8 % min(len(text), within), next(x) // 2**16 % 256
+            yield text[:offset] + bytes([byte]) + text[offset + 1 :]
+
+
 def plain_blocks():
     """By lanes and width: the codes of a block, which are the values of a plain one, and their body."""
     found = {}

@@ -3,7 +3,7 @@ texts with drawn bytes are found by decoders.py."""
 
 from columns import WORKED, blocks_text, column_text, header
 from decoders import decode_column
-from parts import CUT_NUMBERS, MOST, NO_NUMBERS, body_of, drawn, group, number
+from parts import CUT_NUMBERS, MOST, NO_NUMBERS, body_of, group, number, with_another_byte
 from refused_id_sets import each_once, fault_of
 
 # Bytes worked by hand.
@@ -208,13 +208,8 @@ def cut_columns():
 
 
 def drawn_texts():
-    """Texts of columns, each 32 times with another byte, by the rule of docs/VECTORS.md: the next number chooses its offset, and the one after
-    that the byte."""
-    x = iter(drawn(5000))
-    for text in [column_text(kind, values) for kind, values, _ in WORKED if len(values) > 1]:
-        for _ in range(32):
-            offset, byte = next(x) // 2**8 % len(text), next(x) // 2**16 % 256
-            yield text[:offset] + bytes([byte]) + text[offset + 1 :]
+    """Texts of columns, each 32 times with another byte."""
+    return with_another_byte([column_text(kind, values) for kind, values, _ in WORKED if len(values) > 1], 32)
 
 
 def damaged_columns():

@@ -3,7 +3,7 @@ texts with drawn bytes are found by decoders.py."""
 
 from decoders import decode_set
 from id_sets import EVEN, WORKED, array_of, blocks_of, chunked, few_of, in_runs, pairs_of, placed, set_text, spread
-from parts import CUT_NUMBERS, MOST, NO_NUMBERS, drawn, group, number
+from parts import CUT_NUMBERS, MOST, NO_NUMBERS, group, number, with_another_byte
 
 # Bytes worked by hand.
 WORKED_REFUSALS = {
@@ -376,19 +376,14 @@ def fault_of(decode, text):
 
 
 def drawn_texts():
-    """Texts of sets, each 32 times with another byte, by the rule of docs/VECTORS.md: the next number chooses its offset, and the one after
-    that the byte."""
-    x = iter(drawn(5000))
+    """Texts of sets, each 32 times with another byte."""
     bases = [few_of([7, 9, 10, 300]), few_of([*range(0, 69, 2)]), few_of([x * x for x in range(60)])]
     bases += [set_text([*range(0, 255, 2)]), set_text([*range(0, 62, 2), *range(256, 449, 2)])]
     bases += [set_text([*them]) for them in [range(128), range(65536), range(100, 10000), range(65530, 65658)]]
     bases += [set_text([*range(31), *range(256, 353)]), set_text(in_runs(3, 200) + EVEN + [2**17 + it for it in in_runs(6, 48)])]
     bases += [set_text(in_runs(64, 512)), chunked(520, [0], [132], [520], [runs_of(edges_of(65, 520))])]
     bases += [set_text([16384 * i for i in range(128)]), set_text([*range(3), *EVEN]), set_text([512 * i + 3 for i in range(128)])]
-    for text in bases:
-        for _ in range(32):
-            offset, byte = next(x) // 2**8 % len(text), next(x) // 2**16 % 256
-            yield text[:offset] + bytes([byte]) + text[offset + 1 :]
+    return with_another_byte(bases, 32)
 
 
 def damaged_sets():

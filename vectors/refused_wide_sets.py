@@ -3,7 +3,7 @@ texts with drawn bytes are found by wide_decoders.py."""
 
 from columns import column_text
 from id_sets import EVEN, array_of, few_of, set_text, sums_of
-from parts import CUT_NUMBERS, MOST, NO_NUMBERS, drawn, number
+from parts import CUT_NUMBERS, MOST, NO_NUMBERS, number, with_another_byte
 from refused_columns import refused_columns
 from refused_id_sets import each_once, fault_of, refused_id_sets
 from wide_decoders import decode_wide_set
@@ -202,20 +202,14 @@ def cut_sets():
 
 
 def drawn_texts():
-    """Texts of wide sets, each 32 times with another byte, by the rule of docs/VECTORS.md: the next number chooses its offset, and the one after
-    that the byte."""
-    x = iter(drawn(5000))
+    """Texts of wide sets, each 32 times with another of the first 60 bytes."""
     bases = [ids for ids, _ in WORKED[3:]] + [in_high_words((0, range(20)), (1, EVEN), (2**32 - 1, [*range(0, 2**20, 2**14)]))]
     bases += [
         in_high_words(*((3 * m, range(m, m + 9)) for m in range(9))),
         in_high_words(*((2**25 * m, [m, 2**31]) for m in range(70))),
     ]
     bases += [in_high_words(*((m, range(m % 7 + 1)) for m in range(40))), [*range(2**64 - 7, 2**64)]]
-    for ids in bases:
-        text = wide_set_text(ids)
-        for _ in range(32):
-            offset, byte = next(x) // 2**8 % min(len(text), 60), next(x) // 2**16 % 256
-            yield text[:offset] + bytes([byte]) + text[offset + 1 :]
+    return with_another_byte(map(wide_set_text, bases), 32, 60)
 
 
 def damaged_wide_sets():

@@ -4,7 +4,7 @@ columns.py and id_sets.py. Only the faults of texts with drawn bytes are found b
 from columns import column_text
 from decoders import decode_wide_column
 from id_sets import set_text
-from parts import CUT_NUMBERS, MOST, NO_NUMBERS, drawn, number
+from parts import CUT_NUMBERS, MOST, NO_NUMBERS, drawn, number, with_another_byte
 from refused_id_sets import each_once, fault_of
 
 CHUNK = 65536
@@ -221,12 +221,9 @@ def cut_columns():
 
 
 def drawn_texts():
-    """Texts of wide columns, each 64 times with another byte, by the rule of docs/VECTORS.md."""
-    x = iter(drawn(5000))
-    for text in [wide_column_text(values) for values, _ in WORKED[1:-1]] + [wide_column_text([*range(5, 60), None, *range(70, 200)])]:
-        for _ in range(64):
-            offset, byte = next(x) // 2**8 % len(text), next(x) // 2**16 % 256
-            yield text[:offset] + bytes([byte]) + text[offset + 1 :]
+    """Texts of wide columns, each 64 times with another byte."""
+    bases = [wide_column_text(values) for values, _ in WORKED[1:-1]] + [wide_column_text([*range(5, 60), None, *range(70, 200)])]
+    return with_another_byte(bases, 64)
 
 
 def damaged_wide_columns():
