@@ -167,7 +167,7 @@ impl WideSet {
     /// ```
     /// use bitpacking::set::wide::WideSetBuf;
     ///
-    /// // The orders of the shops 3 and 8, with the number of the shop above that of the order.
+    /// // The high 32 bits of an id are the number of a shop, 3 or 8, and the low ones that of an order.
     /// let orders: WideSetBuf = [3, 8].into_iter().flat_map(|shop| (100..200).map(move |order| (shop << 32) + order)).collect();
     /// let shop = orders.part(8).unwrap();
     /// assert_eq!((shop.len(), shop.min(), shop.contains(150)), (100, Some(100), true));
