@@ -6,13 +6,11 @@ use Rattle.bitpack_slices.specs.Bodies.{IsRising}
 use Rattle.bitpack_slices.specs.Reads.{has, rank}
 use Rattle.bitpack_slices.proofs.ForCallers.{both_true, has_below, rank_below}
 use Rattle.bitpack_sets.specs.Reads as set_reads
-use Rattle.bitpack_sets.proofs.ForCallers.{if_none, or_none}
-use Rattle.bitpack_wide.specs.WideColumnFaults.{missing_fault, rest_fault}
 use Rattle.bitpack_wide.specs.WideColumnReads.{part_at, rest_in, value_at, values_at, values_in}
 use Rattle.bitpack_wide.specs.WideColumnSound.{States}
 use Rattle.bitpack_wide.specs.WideColumns.{chunks_of, missing_from}
 use Rattle.bitpack_wide.proofs.WideMissing.{one}
-use Rattle.bitpack_wide.proofs.WideStated.{rest_none, value_by}
+use Rattle.bitpack_wide.proofs.WideStated.{missing_right, value_by}
 
 here : (o : Option ℕ) (a : ℕ) (later : List (Option ℕ)) → is_none o ≡ true → missing_from a (o ∷ later) ≡ a ∷ missing_from (a + 1) later
 unfolding missing_from
@@ -24,7 +22,7 @@ unfolding missing_from
 there None a later e = absurd (true≢false e)
 there (Some x) a later e = refl
 
-empty : (xs : List ℕ) → length xs ≡ 0 → [] ≡ xs
+pub empty : (xs : List ℕ) → length xs ≡ 0 → [] ≡ xs
 empty [] e = refl
 empty (x ∷ xs) e = absurd (omega (arith, e))
 
@@ -64,11 +62,10 @@ none_of false x = refl
 
 pub missing_is : (bytes : List ℕ) (count : ℕ) (rest : List ℕ) (high : ℕ) (xs : List ℕ) → States bytes count rest → xs ≡ set_reads.ids_in (part_at (chunks_of count) rest 0)
     → IsRising 0 high xs → count ≤ high → missing_from 0 (values_in bytes) ≡ xs
-unfolding values_at rest_fault missing_fault
+unfolding values_at
 missing_is bytes count rest high xs s same rising few =
     let missing : List ℕ = set_reads.ids_in (part_at (chunks_of count) rest 0) in
-    let none = (or_none _ _ (or_none _ _ (rest_none bytes count rest s).1).1).0 in
-    let all : rank count missing ≡ length missing = eqb-true (rank count missing) (length missing) (both_true _ _ (if_none _ _ none)).1 in
+    let all : rank count missing ≡ length missing = eqb-true (rank count missing) (length missing) (both_true _ _ (missing_right bytes count rest s)).1 in
     let value : ℕ → Option ℕ = value_at count rest in
     let is : (k : ℕ) → is_none (value k) ≡ has k xs = λ k.
     ap is_none (value_by count rest k (has k missing) refl) ∙ none_of (has k missing) _ ∙ ap (has k) (sym same) in

@@ -13,6 +13,7 @@ pub mod Stated
 pub mod Wide
 pub mod WideColumnErrors
 pub mod WideColumnFaults
+pub mod WideColumnLaws
 pub mod WideColumnReads
 pub mod WideColumnSound
 pub mod WideColumnSteps

@@ -20,7 +20,7 @@ ghost use Rattle.bitpack_wide.specs.WideColumns as columns;
 
 use crate::wide_column_error::WideColumnError;
 use bitpack_sets::IdSet;
-use opening::test_wide_column;
+use opening::{read_wide_column, test_wide_column};
 
 /// A column of 64-bit values. Any of them may be missing. Its bytes were tested when it was opened: reading it tests nothing again and cannot fail.
 #[derive(Clone, Copy)]
@@ -37,7 +37,7 @@ pub struct WideColumn<'a> {
 }
 
 impl<'a> WideColumn<'a> {
-    ghost use Rattle.std.specs.Prelude.{IfOk, length};
+    ghost use Rattle.std.specs.Prelude.{IfOk, None, length};
     ghost use Rattle.bitpack_groups.specs.Faults.{FindsFault};
     ghost use Rattle.bitpack_wide.specs.WideColumnFaults.{fault};
     ghost use Rattle.bitpack_wide.specs.WideOpened.{encoding_of, values};
@@ -48,6 +48,9 @@ impl<'a> WideColumn<'a> {
         // claim: wide_columns/2 opens the bytes of a wide column; names others' first fault
         ensures fault { FindsFault result (fault bytes.now) }
         ensures bytes { IfOk result (λ column. encoding_of column ≡ bytes.now) }
+        // The bytes are the encoding of these values.
+        ensures column { IfOk result (λ column. columns.IsWideColumn (values column)) }
+        ensures encoding { IfOk result (λ column. columns.encoding (values column) ≡ bytes.now) }
     {
         let (count, rest, missing) = test_wide_column(bytes)?;
         Ok(WideColumn {
@@ -56,6 +59,24 @@ impl<'a> WideColumn<'a> {
             rest,
             missing,
         })
+    }
+
+    /// The column whose bytes were opened before: they are not tested again. It is for a caller who stores only the bytes of columns that were
+    /// opened.
+    pub fn of_tested(bytes: &'a [u8]) -> WideColumn<'a>
+        // claim: wide_columns/6 as `sets/11`
+        requires sound { fault bytes.now ≡ None }
+        ensures bytes { encoding_of result ≡ bytes.now }
+        ensures column { columns.IsWideColumn (values result) }
+        ensures encoding { columns.encoding (values result) ≡ bytes.now }
+    {
+        let (count, rest, missing) = read_wide_column(bytes);
+        WideColumn {
+            bytes,
+            count,
+            rest,
+            missing,
+        }
     }
 
     /// The number of values, missing ones too.

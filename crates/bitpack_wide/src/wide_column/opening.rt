@@ -20,7 +20,7 @@ ghost use Rattle.bitpack_wide.specs.WideColumns as columns;
 use super::chunks::test_chunks;
 use super::tables::{bound_at, chunks_of, end_at, part_at, parts_start};
 use crate::wide_column_error::WideColumnError;
-use bitpack_groups::{GroupError, byte_count, test_count};
+use bitpack_groups::{GroupError, byte_count, test_count, unpack_number};
 use bitpack_sets::IdSet;
 
 /// Tests all bytes. Returns the count of values, what is after it, and the set of the missing positions.
@@ -44,6 +44,20 @@ pub(super) fn test_wide_column<'a>(
     let rest = &later[end..];
     let missing = test_rest(form, count, rest)?;
     Ok((count, rest, missing))
+}
+
+/// Reads the count of values, what is after it, and the set of the missing positions, of bytes that were tested.
+pub(super) fn read_wide_column<'a>(bytes: &'a [u8]) -> (usize, &'a [u8], IdSet<'a>)
+    requires sound { fault bytes.now ≡ None }
+    ensures states { States bytes.now result.0 result.1.now }
+    ensures missing { encoding_of result.2 ≡ reads.part_at (columns.chunks_of result.0) result.1.now 0 }
+{
+    let later = &bytes[1..];
+    let (count, end) = unpack_number(later);
+    let count = count as usize;
+    let rest = &later[end..];
+    let missing = IdSet::of_tested(part_at(chunks_of(count), rest, 0));
+    (count, rest, missing)
 }
 
 /// Tests the count of values. Returns it, and how many bytes it has.
