@@ -17,6 +17,7 @@ mod StatedLaws
 mod UnpackLaws
 mod WideAbsent
 mod WideBack
+mod WideBounds
 mod WideChunks
 mod WideFilled
 mod WideLaws

@@ -97,13 +97,34 @@ unfolding least
 least_most f a zero l small h = small
 least_most f a (suc n) l small h = let later = least_most f (a + 1) n l small h in let here = h a in grind (arith, later, here)
 
-least_under : (f : ℕ → ℕ) (a n k : ℕ) → a ≤ k → k < a + n → least (map f (range_with_len a n)) ≤ f k
+pub least_under : (f : ℕ → ℕ) (a n k : ℕ) → a ≤ k → k < a + n → least (map f (range_with_len a n)) ≤ f k
 unfolding least
 least_under f a zero k lo hi = absurd (omega (arith, lo, hi))
 least_under f a (suc n) k lo hi = elim (cases_lt a k) [
   | inl later ↦ (let below = least_under f (a + 1) n k (omega (arith, later)) (omega (arith, hi)) in grind (arith, below))
   | inr here ↦ (let e : a ≡ k = omega (arith, lo, here) in let same = ap f e in grind (arith, same))
 ]
+
+pub greatest_over : (f : ℕ → ℕ) (a n k : ℕ) → a ≤ k → k < a + n → f k ≤ greatest (map f (range_with_len a n))
+unfolding greatest
+greatest_over f a zero k lo hi = absurd (omega (arith, lo, hi))
+greatest_over f a (suc n) k lo hi = elim (cases_lt a k) [
+  | inl later ↦ (let above = greatest_over f (a + 1) n k (omega (arith, later)) (omega (arith, hi)) in grind (arith, above))
+  | inr here ↦ (let e : a ≡ k = omega (arith, lo, here) in let same = ap f e in grind (arith, same))
+]
+
+-- the number of a missing value is one before it
+pub least_filled : (b : ℕ) (values : List (Option ℕ)) → min b (least (filled b values)) ≡ min b (least (there values))
+unfolding least filled there
+least_filled b [] = refl
+least_filled b (None ∷ values) = let later = least_filled b values in grind (arith, later)
+least_filled b (Some x ∷ values) = let later = least_filled x values in ap (min b) later
+
+pub greatest_filled : (b : ℕ) (values : List (Option ℕ)) → max b (greatest (filled b values)) ≡ max b (greatest (there values))
+unfolding greatest filled there
+greatest_filled b [] = refl
+greatest_filled b (None ∷ values) = let later = greatest_filled b values in grind (arith, later)
+greatest_filled b (Some x ∷ values) = let later = greatest_filled x values in ap (max b) later
 
 pub least_range : (f : ℕ → ℕ) (n k l : ℕ) → k < n → l ≤ 2 ^ 64 - 1 → ((i : ℕ) → l ≤ f i) → f k ≡ l → least (map f (range_with_len 0 n)) ≡ l
 least_range f n k l lt small h e = omega (arith, least_most f 0 n l small h, least_under f 0 n k (omega arith) (omega (arith, lt)), e)

@@ -89,7 +89,7 @@ module _ (bytes : List ℕ) (count : ℕ) (rest : List ℕ) (each : EachByte res
 
   -- ---- parts
 
-  values_same : values_in bytes ≡ values
+  pub values_same : values_in bytes ≡ values
   values_same = ap (λ (n : ℕ). values_at n (Rattle.bitpack_wide.specs.WideColumnReads.rest_in bytes)) (sym s.count_is) ∙ ap (values_at count) (sym s.rest_is)
 
   missing_back : sets.encoding (missing_from 0 values) ≡ part_at chunks rest 0

@@ -1,11 +1,11 @@
 -- The values of a chunk whose differences and bounds are right: their numbers, the bounds of these, and their order.
-use Rattle.std.proofs.Common.{◌≡◌, ℕ, zero, suc, ◌+◌, ◌-◌, ◌^◌, ◌<◌, Bool, true, false, ◌&&◌, ◌||◌, cond, not, eqb, eqb-true, leb, List, [], ◌∷◌, map, length, get_or, Option, refl, sym, ap, ◌∙◌, arith, inl, inr}
+use Rattle.std.proofs.Common.{◌≡◌, ℕ, zero, suc, ◌+◌, ◌-◌, ◌^◌, ◌<◌, ◌≤◌, Bool, true, false, ◌&&◌, ◌||◌, cond, not, eqb, eqb-true, leb, List, [], ◌∷◌, map, length, get_or, Option, refl, sym, subst, ap, ◌∙◌, arith, inl, inr}
 use Rattle.std.specs.List.{range_with_len}
 use Rattle.std.proofs.lemmas.Bool.{true≢false}
 use Rattle.bitpack_groups.specs.Numbers as groups
 use Rattle.bitpack_wide.specs.WideColumnFaults.{is_filled, is_front, rise}
 use Rattle.bitpack_wide.specs.WideColumns.{differences, greatest, least, numbers, rise_from, there}
-use Rattle.bitpack_wide.proofs.WideNumbers.{filled_by, first_by, greatest_more, greatest_range, least_range, none_there, one_there, value}
+use Rattle.bitpack_wide.proofs.WideNumbers.{filled_by, first_by, greatest_more, greatest_range, greatest_filled, greatest_over, least_filled, least_range, least_under, none_there, one_there, value}
 use Rattle.bitpack_wide.proofs.WideOrder.{last_all, last_filled, last_from, last_head, rise_all, rise_filled, rise_head, rise_more, rise_ordered}
 use Rattle.bitpack_wide.proofs.WideMissing.{decided, each_find}
 use Rattle.bitpack_wide.proofs.WideSeen.{ordered_sees}
@@ -91,7 +91,7 @@ module _ (low high : ℕ) (missing : ℕ → Bool) (difference : ℕ → ℕ) (l
   pub empty_there : is_front missing len ≡ true → there values ≡ []
   empty_there all = none_there missing number len 0 (λ k lo hi. each_true missing len all k (omega (arith, hi)))
 
-  some_there : is_front missing len ≡ false → 0 < length (there values)
+  pub some_there : is_front missing len ≡ false → 0 < length (there values)
   some_there e = let one = each_find missing len e in one_there missing number len 0 one.0 (omega arith) (omega (arith, one.1)) one.2
 
   rise_there : (b : ℕ) → is_front missing len ≡ false → rise_from b (there values) ≡ (leb b (number 0) && rise difference len)
@@ -141,3 +141,36 @@ module _ (low high : ℕ) (missing : ℕ → Bool) (difference : ℕ → ℕ) (l
     | inl all ↦ ap (last_from b) (empty_there all) ∙ sym (ap (λ (t : Bool). cond t b high) all)
     | inr some ↦ last_there b some (later_true (leb b (number 0)) (rise difference len) (sym (rise_there b some) ∙ e)) ∙ sym (ap (λ (t : Bool). cond t b high) some)
   ]
+
+  -- the bounds of the values that are there
+
+  heads : (xs : List ℕ) → 0 < length xs → (least xs ≤ get_or xs 0 0) × (get_or xs 0 0 ≤ greatest xs)
+  unfolding least greatest
+  heads [] some = absurd (omega (arith, some))
+  heads (x ∷ xs) some = (grind arith, grind arith)
+
+  -- that of the first position is one of them
+  number_first : (least (numbers values) ≤ get_or (there values) 0 0) × (get_or (there values) 0 0 ≤ greatest (numbers values))
+  number_first =
+      let first : ℕ = get_or (there values) 0 0 in
+      let low : least (numbers values) ≤ number 0 = subst (λ (xs : List ℕ). least xs ≤ number 0) (sym numbers_are) (least_under number 0 len 0 (omega arith) (omega (arith, right.some))) in
+      let high : number 0 ≤ greatest (numbers values) = subst (λ (xs : List ℕ). number 0 ≤ greatest xs) (sym numbers_are) (greatest_over number 0 len 0 (omega arith) (omega (arith, right.some))) in
+      (omega (arith, first_is, low), omega (arith, first_is, high))
+
+  pub least_there : is_front missing len ≡ false → least (there values) ≡ low
+  least_there e =
+      let first : ℕ = get_or (there values) 0 0 in
+      let same = least_filled first values in
+      let head = (heads (there values) (some_there e)).0 in
+      let own = number_first.0 in
+      let one : least (there values) ≡ least (numbers values) = grind (arith, same, head, own) in
+      one ∙ ap least numbers_are ∙ least_is
+
+  pub greatest_there : is_front missing len ≡ false → greatest (there values) ≡ high
+  greatest_there e =
+      let first : ℕ = get_or (there values) 0 0 in
+      let same = greatest_filled first values in
+      let head = (heads (there values) (some_there e)).1 in
+      let own = number_first.1 in
+      let one : greatest (there values) ≡ greatest (numbers values) = grind (arith, same, head, own) in
+      one ∙ ap greatest numbers_are ∙ greatest_is

@@ -1,5 +1,5 @@
 -- What is known while the chunks of a wide column are tested.
-use Rattle.std.specs.Prelude.{◌≡◌, ℕ, ◌+◌, ◌-◌, ◌*◌, ◌<◌, Bool, false, true, ◌&&◌, ◌||◌, ◌==◌, not, nat_lt, List, length, slice_index, Option, Some, None}
+use Rattle.std.specs.Prelude.{◌≡◌, ℕ, min, max, ◌+◌, ◌-◌, ◌*◌, ◌<◌, Bool, false, true, ◌&&◌, ◌||◌, ◌==◌, not, nat_lt, List, length, slice_index, Option, Some, None}
 use Rattle.bitpack_groups.specs.Numbers.{greatest}
 use Rattle.bitpack_columns.specs.Opened.{encoding_of, kind_of, values}
 use Rattle.bitpack_columns.specs.declared.column.Column.{Column}
@@ -63,3 +63,9 @@ abbrev pub same_at : (ℕ → ℕ) → ℕ → List ℕ → ℕ → ℕ → Bool
 same_at number begin ids first j =
     let k = slice_index ids (first + j) - begin in
     number k == number (k - 1)
+
+-- the bounds of numbers with these bounds together
+abbrev pub join_bounds : Option (ℕ × ℕ) → Option (ℕ × ℕ) → Option (ℕ × ℕ)
+join_bounds None b = b
+join_bounds (Some a) None = Some a
+join_bounds (Some a) (Some b) = Some (min a.0 b.0, max a.1 b.1)

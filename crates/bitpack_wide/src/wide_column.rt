@@ -2,6 +2,7 @@
 //!
 //! FORMAT.md, "Wide columns".
 
+mod bounds;
 mod chunk;
 mod chunks;
 mod filling;

@@ -30,7 +30,7 @@ pub(super) fn test_filled(chunk: &Chunk, begin: usize, missing: &IdSet) -> Optio
 
 /// How many ids are from one on and below another.
 #[inline(always)]
-fn count_between(missing: &IdSet, begin: usize, end: usize) -> usize
+pub(super) fn count_between(missing: &IdSet, begin: usize, end: usize) -> usize
     requires order { begin ≤ end }
     requires few { end ≤ 2 ^ 28 }
     ensures count { rank begin (ids missing.now) + result ≡ rank end (ids missing.now) }
