@@ -19,6 +19,7 @@ mod WideAbsent
 mod WideBack
 mod WideBounds
 mod WideChunks
+mod WideCopied
 mod WideFilled
 mod WideLaws
 mod WideMissing

@@ -5,6 +5,7 @@
 mod bounds;
 mod chunk;
 mod chunks;
+mod copying;
 mod filling;
 mod getting;
 mod opening;

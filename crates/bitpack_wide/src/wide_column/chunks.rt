@@ -5,6 +5,7 @@ ghost use Rattle.std.specs.Prelude.{◌≡◌, ◌+◌, ◌*◌, ◌^◌, ◌<�
 ghost use Rattle.std.specs.Option.{option_or};
 ghost use Rattle.bitpack_groups.specs.Faults.{FindsFault};
 ghost use Rattle.bitpack_sets.specs.Opened as sets;
+ghost use Rattle.bitpack_columns.specs.Faults as column_faults;
 ghost use Rattle.bitpack_columns.specs.Opened.{encoding_of, values};
 ghost use Rattle.bitpack_columns.specs.declared.column.Column.{Column};
 ghost use Rattle.bitpack_wide.specs.WideColumnFaults.{chunk_fault, each_below, first_of, high_fault, is_column, is_in_order, low_fault};
@@ -84,6 +85,46 @@ fn open_chunk<'a>(count: usize, rest: &'a [u8], index: usize) -> Result<Chunk<'a
         low,
         high,
     })
+}
+
+/// The parts of a chunk that were tested.
+pub(super) fn read_chunk<'a>(count: usize, rest: &'a [u8], index: usize) -> Chunk<'a>
+    requires few { count ≤ 2 ^ 28 }
+    requires parts { HasParts (columns.chunks_of count) rest.now }
+    requires within { index < columns.chunks_of count }
+    requires right { chunk_fault count rest.now index ≡ None }
+    ensures { IsChunk count rest.now index result }
+{
+    let chunks = chunks_of(count);
+    let len = CHUNK_LEN.min(count - CHUNK_LEN * index);
+    let least = bound_at(chunks, rest, 2 * index);
+    let greatest = bound_at(chunks, rest, 2 * index + 1);
+    let low = Column::of_tested(part_at(chunks, rest, 2 * index + 1));
+    let high = read_high(
+        has_high(least, greatest),
+        part_at(chunks, rest, 2 * index + 2),
+    );
+    Chunk {
+        least,
+        greatest,
+        len,
+        low,
+        high,
+    }
+}
+
+/// The high part of a chunk that was tested, if it needs one.
+fn read_high<'a>(needed: bool, part: &'a [u8]) -> Option<Column<'a>>
+    requires { needed ≡ true → column_faults.fault part.now ≡ None }
+    ensures none { needed ≡ false → result ≡ None }
+    ensures bytes { IfSome result (λ column. encoding_of column ≡ part.now) }
+    ensures some { needed ≡ true → (column : Column) × (result ≡ Some column) × (encoding_of column ≡ part.now) }
+{
+    if needed {
+        Some(Column::of_tested(part))
+    } else {
+        None
+    }
 }
 
 /// Whether bounds are so far apart that the chunk has a high part.
