@@ -1,5 +1,5 @@
 -- The bounds of chunks, and of all values.
-use Rattle.std.proofs.Common.{◌≡◌, ℕ, zero, suc, ◌+◌, ◌-◌, ◌*◌, ◌^◌, ◌<◌, ◌≤◌, Bool, true, false, min, max, List, [], ◌∷◌, ◌++◌, take, drop, length, Option, Some, None, refl, sym, subst, ap, ◌∙◌, arith, inl, inr, take-add}
+use Rattle.std.proofs.Common.{◌≡◌, ℕ, ◌+◌, ◌-◌, ◌*◌, ◌^◌, ◌<◌, ◌≤◌, Bool, true, false, min, max, List, [], ◌∷◌, ◌++◌, take, drop, length, Option, Some, None, refl, sym, subst, ap, ◌∙◌, arith, take-add}
 use Rattle.std.proofs.lemmas.List.{drop_all, take_all}
 use Rattle.bitpacking.specs.Bits.{AreBytes}
 use Rattle.bitpack_groups.proofs.ForCallers.{AreBytes-drop}

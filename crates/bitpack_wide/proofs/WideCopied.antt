@@ -1,5 +1,5 @@
 -- A range of the values of a wide column, with a number for each that is missing.
-use Rattle.std.proofs.Common.{◌≡◌, ℕ, zero, suc, ◌+◌, ◌-◌, ◌*◌, ◌/◌, ◌%◌, ◌^◌, ◌<◌, ◌≤◌, Bool, true, false, ◌&&◌, cond, eqb, ltb, min, List, [], map, take, drop, length, get_or, Option, Some, None, refl, sym, ap, ◌∙◌, arith, inl, inr, length-drop}
+use Rattle.std.proofs.Common.{◌≡◌, ℕ, ◌+◌, ◌-◌, ◌*◌, ◌/◌, ◌%◌, ◌^◌, ◌<◌, ◌≤◌, Bool, true, false, ◌&&◌, cond, eqb, ltb, min, List, map, take, drop, length, get_or, Option, Some, None, refl, sym, ap, ◌∙◌, arith, inl, inr, length-drop}
 use Rattle.std.specs.List.{range_with_len}
 use Rattle.std.proofs.lemmas.Bool.{cases_lt, le-ltb, lt-ltb}
 use Rattle.std.proofs.lemmas.List.{get_or-drop, get_or-take, length-take-le}
@@ -10,10 +10,8 @@ use Rattle.bitpack_slices.specs.Bodies.{IsRising}
 use Rattle.bitpack_slices.specs.Reads.{has, rank}
 use Rattle.bitpack_slices.proofs.ForCallers.{has_at_rank, has_not}
 use Rattle.bitpack_sets.proofs.ForCallers.{map_map}
-use Rattle.bitpack_columns.specs.Opened.{values}
 use Rattle.bitpack_wide.specs.declared.wide_column.chunk.Chunk.{Chunk}
-use Rattle.bitpack_wide.specs.WideColumnFaults.{chunk_fault}
-use Rattle.bitpack_wide.specs.WideColumnReads.{difference_at, greatest_at, highs_at, least_at, len_at, lows_at, missing_in, value_at, values_at, values_in}
+use Rattle.bitpack_wide.specs.WideColumnReads.{difference_at, least_at, len_at, lows_at, missing_in, value_at, values_at, values_in}
 use Rattle.bitpack_wide.specs.WideColumnSound.{States, difference_in, values_of}
 use Rattle.bitpack_wide.specs.WideColumnSteps.{IsChunk}
 use Rattle.bitpack_wide.specs.WideColumns.{chunks_of}

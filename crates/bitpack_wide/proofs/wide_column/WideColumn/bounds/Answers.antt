@@ -1,5 +1,5 @@
 -- The bounds of a chunk that has a value are those in the bytes.
-use Rattle.std.proofs.Common.{◌≡◌, ◌+◌, ◌-◌, ◌*◌, ◌∙◌, Bool, ℕ, List, Option, Some, ap, arith, min, subst, sym}
+use Rattle.std.proofs.Common.{◌+◌, ◌-◌, ◌*◌, ◌∙◌, ℕ, List, Some, ap, arith, min, subst, sym}
 use Rattle.bitpack_slices.specs.Reads.{has}
 use Rattle.bitpack_sets.specs.Reads as set_reads
 use Rattle.bitpack_wide.specs.WideColumnFaults.{is_front}

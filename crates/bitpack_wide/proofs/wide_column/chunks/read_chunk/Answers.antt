@@ -1,5 +1,5 @@
 -- The bounds and the columns are those of the chunk, which has no fault.
-use Rattle.std.proofs.Common.{◌≡◌, ◌+◌, ◌-◌, ◌*◌, ◌<◌, ◌∙◌, Bool, ℕ, List, Option, Some, None, true, false, ap, arith, cond, eqb, eqb-true, is_some, length, refl, sym, inl, inr}
+use Rattle.std.proofs.Common.{◌≡◌, ◌+◌, ◌-◌, ◌*◌, ◌∙◌, Bool, ℕ, List, Option, true, ap, arith, cond, eqb, eqb-true, is_some, length, sym, inl, inr}
 use Rattle.std.proofs.lemmas.Bool.{true≢false}
 use Rattle.bitpack_slices.proofs.ForCallers.{both_true}
 use Rattle.bitpack_columns.specs.Faults as column_faults
