@@ -8,7 +8,7 @@ use Rattle.bitpack_slices.proofs.ForCallers.{EachByte, bytes_are}
 use Rattle.bitpack_wide.specs.WideColumnFaults.{is_front}
 use Rattle.bitpack_wide.specs.WideColumnReads.{difference_at, greatest_at, is_missing, least_at, len_at, values_at, values_in}
 use Rattle.bitpack_wide.specs.WideColumnSound.{States}
-use Rattle.bitpack_wide.specs.WideColumnSteps.{join_bounds}
+use Rattle.bitpack_wide.specs.inner.WideColumnSteps.{join_bounds}
 use Rattle.bitpack_wide.specs.WideColumns.{chunk_of, chunks_of, greatest, least, there}
 use Rattle.bitpack_wide.specs.WideOpened.{bounds_of}
 use Rattle.bitpack_wide.proofs.WideBack.{chunk_is, right}

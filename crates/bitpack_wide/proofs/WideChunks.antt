@@ -12,7 +12,7 @@ use Rattle.bitpack_wide.specs.declared.wide_column_error.WideColumnError.TheVari
 use Rattle.bitpack_wide.specs.WideColumnFaults.{chunk_fault, each_below, has_bounds, has_high_kind, has_kind, has_low_kind, high_fault, is_filled, is_front, last_before, loose_fault, low_fault, rise}
 use Rattle.bitpack_wide.specs.WideColumnReads.{greatest_at, highs_at, is_high, is_missing, least_at, len_at, lows_at, part_at}
 use Rattle.bitpack_wide.specs.WideColumnSound.{values_of}
-use Rattle.bitpack_wide.specs.WideColumnSteps.{IsChunk, column_has_kind, difference_of, high_has_kind, is_right}
+use Rattle.bitpack_wide.specs.inner.WideColumnSteps.{IsChunk, column_has_kind, difference_of, high_has_kind, is_right}
 use Rattle.bitpack_wide.specs.WideColumns.{chunks_of}
 use Rattle.bitpack_wide.proofs.WideRight.{or_assoc}
 

@@ -13,7 +13,7 @@ use Rattle.bitpack_sets.proofs.ForCallers.{map_map}
 use Rattle.bitpack_wide.specs.declared.wide_column.chunk.Chunk.{Chunk}
 use Rattle.bitpack_wide.specs.WideColumnReads.{difference_at, least_at, len_at, lows_at, missing_in, value_at, values_at, values_in}
 use Rattle.bitpack_wide.specs.WideColumnSound.{States, difference_in, values_of}
-use Rattle.bitpack_wide.specs.WideColumnSteps.{IsChunk}
+use Rattle.bitpack_wide.specs.inner.WideColumnSteps.{IsChunk}
 use Rattle.bitpack_wide.specs.WideColumns.{chunks_of}
 use Rattle.bitpack_wide.specs.WideOpened.{value_or, with_fill}
 use Rattle.bitpack_wide.proofs.WideBack.{bound_small}

@@ -4,7 +4,7 @@ use Rattle.std.proofs.lemmas.Bool.{cases_lt, true≢false}
 use Rattle.bitpack_slices.specs.Bodies.{IsRising}
 use Rattle.bitpack_slices.specs.Reads.{has, rank}
 use Rattle.bitpack_wide.specs.WideColumnFaults.{each_below, is_filled, is_front}
-use Rattle.bitpack_wide.specs.WideColumnSteps.{is_as_before, is_first_same}
+use Rattle.bitpack_wide.specs.inner.WideColumnSteps.{is_as_before, is_first_same}
 use Rattle.bitpack_wide.proofs.WideMissing.{decided, front_rank, one, rank_step, rank_up, true_front}
 use Rattle.bitpack_wide.proofs.WideSteps.{each_both, each_false, each_same, each_true, true_each}
 

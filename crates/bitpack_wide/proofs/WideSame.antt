@@ -9,7 +9,7 @@ use Rattle.bitpack_sets.specs.Opened.{ids}
 use Rattle.bitpack_sets.specs.declared.id_set.IdSet.{IdSet}
 use Rattle.bitpack_sets.proofs.ForCallers.{ids_are_read}
 use Rattle.bitpack_wide.specs.WideColumnFaults.{each_below}
-use Rattle.bitpack_wide.specs.WideColumnSteps.{is_as_before, same_at}
+use Rattle.bitpack_wide.specs.inner.WideColumnSteps.{is_as_before, same_at}
 use Rattle.bitpack_wide.proofs.WideMissing.{decided, each_find, rank_up}
 use Rattle.bitpack_wide.proofs.WideSteps.{each_false, each_true, true_each}
 

@@ -9,7 +9,7 @@ use Rattle.bitpack_columns.specs.Opened.{kind_of, values}
 use Rattle.bitpack_columns.specs.declared.column.Column.{Column}
 use Rattle.bitpack_columns.specs.declared.column_kind.ColumnKind.TheVariants.{Sorted}
 use Rattle.bitpack_wide.specs.WideColumnSound.{IsPart, difference_in}
-use Rattle.bitpack_wide.specs.WideColumnSteps.{Sees, SeesRise}
+use Rattle.bitpack_wide.specs.inner.WideColumnSteps.{Sees, SeesRise}
 use Rattle.bitpack_wide.proofs.WideSteps.{each_false, each_next, each_start, true_each}
 
 pub not_all : (a b : Bool) → not (a && b) ≡ (not a || not b)

@@ -16,7 +16,6 @@ pub mod WideColumnFaults
 pub mod WideColumnLaws
 pub mod WideColumnReads
 pub mod WideColumnSound
-pub mod WideColumnSteps
 pub mod WideColumns
 pub mod WideOpened
 pub mod WorkedFaults

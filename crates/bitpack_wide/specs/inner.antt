@@ -1,3 +1,4 @@
 -- What serves inner contracts.
 pub mod Parts
+pub mod WideColumnSteps
 pub mod Writing

@@ -4,7 +4,7 @@ ghost use Rattle.std.specs.Prelude.{◌≡◌, ℕ, ◌+◌, ◌^◌, ◌≤◌}
 ghost use Rattle.bitpack_slices.specs.Reads.{has};
 ghost use Rattle.bitpack_sets.specs.Opened.{ids};
 ghost use Rattle.bitpack_wide.specs.WideColumnFaults.{is_front};
-ghost use Rattle.bitpack_wide.specs.WideColumnSteps.{join_bounds};
+ghost use Rattle.bitpack_wide.specs.inner.WideColumnSteps.{join_bounds};
 
 use super::WideColumn;
 use super::filling::count_between;

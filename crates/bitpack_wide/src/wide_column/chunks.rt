@@ -11,7 +11,7 @@ ghost use Rattle.bitpack_columns.specs.declared.column.Column.{Column};
 ghost use Rattle.bitpack_wide.specs.WideColumnFaults.{chunk_fault, each_below, first_of, high_fault, is_column, is_in_order, low_fault};
 ghost use Rattle.bitpack_wide.specs.WideColumnReads as reads;
 ghost use Rattle.bitpack_wide.specs.WideColumnSound.{HasLen, HasParts};
-ghost use Rattle.bitpack_wide.specs.WideColumnSteps.{IsChunk};
+ghost use Rattle.bitpack_wide.specs.inner.WideColumnSteps.{IsChunk};
 ghost use Rattle.bitpack_wide.specs.WideColumns as columns;
 
 use super::chunk::Chunk;

@@ -16,7 +16,7 @@ impl<'a> WideColumn<'a> {
     /// Writes the values from a position on at the start of the slice, as many as there are and it has room for, and returns how many it
     /// wrote. For each missing value it writes `fill`. It writes none if the position is not below the number of values.
     ///
-    /// The rest of the slice is unchanged. Allocates nothing, and reads only blocks that have such values.
+    /// The rest of the slice is unchanged. Allocates nothing.
     pub fn copy_range(&self, from: usize, out: &mut [u64], fill: u64) -> usize
         ensures len { result ≡ min (length out.old) (length (values self.now) - from) }
         // claim: wide_columns/8 as `sets/4`, of values, with a number for the missing ones

@@ -4,7 +4,7 @@ ghost use Rattle.std.specs.Prelude.{◌≡◌, ◌≢◌, ◌⊎◌, ℕ, ◌+�
 ghost use Rattle.bitpack_slices.specs.Reads.{has, rank};
 ghost use Rattle.bitpack_sets.specs.Opened.{ids};
 ghost use Rattle.bitpack_wide.specs.WideColumnFaults.{each_below, is_filled, is_front};
-ghost use Rattle.bitpack_wide.specs.WideColumnSteps.{IsLast, difference_of, is_as_before, is_first_same, same_at};
+ghost use Rattle.bitpack_wide.specs.inner.WideColumnSteps.{IsLast, difference_of, is_as_before, is_first_same, same_at};
 ghost use Rattle.bitpack_wide.specs.WideColumnSound.{IsPart};
 
 use super::chunk::{Chunk, PART, read_differences};

@@ -4,7 +4,7 @@ ghost use Rattle.std.specs.Prelude.{◌≡◌, ℕ, ◌+◌, ◌-◌, ◌*◌, �
 ghost use Rattle.bitpack_columns.specs.Opened.{kind_of, values};
 ghost use Rattle.bitpack_columns.specs.declared.column_kind.ColumnKind.TheVariants.{Plain, Sorted};
 ghost use Rattle.bitpack_wide.specs.WideColumnFaults.{rise};
-ghost use Rattle.bitpack_wide.specs.WideColumnSteps.{Sees, SeesRise, column_has_kind, difference_of, high_has_kind};
+ghost use Rattle.bitpack_wide.specs.inner.WideColumnSteps.{Sees, SeesRise, column_has_kind, difference_of, high_has_kind};
 ghost use Rattle.bitpack_wide.specs.WideColumnSound.{IsPart};
 
 use super::chunk::{Chunk, PART, read_differences};

@@ -7,7 +7,7 @@ ghost use Rattle.bitpack_sets.specs.Opened.{ids};
 ghost use Rattle.bitpack_columns.specs.Opened.{kind_of, values};
 ghost use Rattle.bitpack_groups.specs.Numbers.{greatest};
 ghost use Rattle.bitpack_wide.specs.WideColumnFaults.{each_below, has_bounds, is_filled, is_front, rise};
-ghost use Rattle.bitpack_wide.specs.WideColumnSteps.{Sees, column_has_kind, difference_of, is_right};
+ghost use Rattle.bitpack_wide.specs.inner.WideColumnSteps.{Sees, column_has_kind, difference_of, is_right};
 
 use super::chunk::Chunk;
 use super::filling::test_filled;
@@ -69,7 +69,7 @@ fn has_kind(column: &Column) -> bool
 
 /// Whether the high part of a chunk, if it has one, is sorted or falls.
 fn high_has_kind(chunk: &Chunk) -> bool
-    ensures { result ≡ Rattle.bitpack_wide.specs.WideColumnSteps.high_has_kind chunk.now.high }
+    ensures { result ≡ Rattle.bitpack_wide.specs.inner.WideColumnSteps.high_has_kind chunk.now.high }
 {
     match chunk.high {
         Some(column) => has_kind(&column),

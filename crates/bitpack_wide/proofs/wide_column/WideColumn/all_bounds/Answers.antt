@@ -1,7 +1,7 @@
 -- One chunk more.
 use Rattle.std.proofs.Common.{◌*◌, ◌∙◌, ℕ, Option, ap, arith}
 use Rattle.std.specs.Prelude.{take}
-use Rattle.bitpack_wide.specs.WideColumnSteps.{join_bounds}
+use Rattle.bitpack_wide.specs.inner.WideColumnSteps.{join_bounds}
 use Rattle.bitpack_wide.specs.WideColumns.{there}
 use Rattle.bitpack_wide.specs.WideOpened.{bounds_of, values}
 use Rattle.bitpack_wide.proofs.WideBounds.{bounds_all, bounds_next, bounds_start}

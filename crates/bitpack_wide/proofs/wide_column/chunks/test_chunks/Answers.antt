@@ -6,7 +6,7 @@ use Rattle.bitpack_sets.specs.Reads as set_reads
 use Rattle.bitpack_wide.specs.declared.wide_column_error.WideColumnError.TheVariants.{LooseBody}
 use Rattle.bitpack_wide.specs.WideColumnFaults.{chunk_fault, each_below, is_front, is_in_order, last_before, rise}
 use Rattle.bitpack_wide.specs.WideColumnReads.{difference_at, is_missing, least_at, len_at}
-use Rattle.bitpack_wide.specs.WideColumnSteps.{is_right}
+use Rattle.bitpack_wide.specs.inner.WideColumnSteps.{is_right}
 use Rattle.bitpack_wide.specs.WideColumns.{chunks_of}
 use Rattle.bitpack_wide.proofs.WideChunks.{chunk_by, last_next, last_start, loose_is, rise_is}
 use Rattle.bitpack_wide.proofs.WideSteps.{each_next, each_start, first_found, first_more, first_start}

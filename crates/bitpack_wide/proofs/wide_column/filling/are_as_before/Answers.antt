@@ -2,7 +2,7 @@
 use Rattle.std.proofs.Common.{◌+◌, ℕ, Bool, refl, arith, sym}
 use Rattle.bitpack_slices.specs.Reads.{has}
 use Rattle.bitpack_sets.specs.Opened.{ids}
-use Rattle.bitpack_wide.specs.WideColumnSteps.{difference_of, is_as_before}
+use Rattle.bitpack_wide.specs.inner.WideColumnSteps.{difference_of, is_as_before}
 use Rattle.bitpack_wide.proofs.WideSeen.{each_fails}
 use Rattle.bitpack_wide.proofs.WideSteps.{each_start}
 use Rattle.bitpack_wide.proofs.wide_column.filling.are_as_before.Goals as goal

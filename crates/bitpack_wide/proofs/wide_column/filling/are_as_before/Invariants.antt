@@ -3,7 +3,7 @@ use Rattle.std.proofs.Common.{◌≡◌, ◌+◌, ◌-◌, ◌≤◌, true}
 use Rattle.bitpack_slices.specs.Reads.{has}
 use Rattle.bitpack_sets.specs.Opened.{ids}
 use Rattle.bitpack_wide.specs.WideColumnFaults.{each_below}
-use Rattle.bitpack_wide.specs.WideColumnSteps.{IsLast, difference_of, is_as_before}
+use Rattle.bitpack_wide.specs.inner.WideColumnSteps.{IsLast, difference_of, is_as_before}
 use Rattle.bitpack_wide.proofs.wide_column.filling.are_as_before.Given as goal
 
 abbrev pub invariant-loop-from : goal.invariant-loop-from

@@ -1,7 +1,7 @@
 -- One id more.
 use Rattle.std.proofs.Common.{◌≡◌, ◌+◌, ◌-◌, ℕ, Bool, ◌&&◌, eqb, get_or, ap, arith, sym, ◌∙◌}
 use Rattle.bitpack_wide.specs.WideColumnFaults.{each_below}
-use Rattle.bitpack_wide.specs.WideColumnSteps.{same_at}
+use Rattle.bitpack_wide.specs.inner.WideColumnSteps.{same_at}
 use Rattle.bitpack_wide.proofs.WideSteps.{each_next, each_start}
 use Rattle.bitpack_wide.proofs.wide_column.filling.are_same.Goals as goal
 

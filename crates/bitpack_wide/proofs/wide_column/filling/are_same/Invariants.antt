@@ -2,7 +2,7 @@
 use Rattle.std.proofs.Common.{◌≡◌, ◌+◌, ℕ}
 use Rattle.bitpack_wide.specs.WideColumnFaults.{each_below}
 use Rattle.bitpack_wide.specs.WideColumnSound.{IsPart}
-use Rattle.bitpack_wide.specs.WideColumnSteps.{IsLast, same_at}
+use Rattle.bitpack_wide.specs.inner.WideColumnSteps.{IsLast, same_at}
 use Rattle.bitpack_wide.proofs.wide_column.filling.are_same.Given as goal
 
 abbrev pub invariant-loop-index : goal.invariant-loop-index

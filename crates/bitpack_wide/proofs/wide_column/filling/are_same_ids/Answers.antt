@@ -2,7 +2,7 @@
 use Rattle.std.proofs.Common.{◌≡◌, ◌-◌, ℕ, eqb, length, ap, arith, ◌∙◌}
 use Rattle.bitpack_sets.specs.Opened.{ids}
 use Rattle.bitpack_wide.specs.WideColumnFaults.{each_below}
-use Rattle.bitpack_wide.specs.WideColumnSteps.{same_at}
+use Rattle.bitpack_wide.specs.inner.WideColumnSteps.{same_at}
 use Rattle.bitpack_wide.proofs.WideSteps.{each_same}
 use Rattle.bitpack_wide.proofs.WideSame.{written_id}
 use Rattle.bitpack_wide.proofs.wide_column.filling.are_same_ids.Goals as goal

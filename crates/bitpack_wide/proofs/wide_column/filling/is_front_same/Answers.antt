@@ -3,7 +3,7 @@ use Rattle.std.proofs.Common.{◌≡◌, ◌+◌, ◌-◌, ◌<◌, ℕ, Bool, e
 use Rattle.std.proofs.lemmas.Bool.{cases_lt, true≢false}
 use Rattle.bitpack_slices.specs.Reads.{has}
 use Rattle.bitpack_sets.specs.Opened.{ids}
-use Rattle.bitpack_wide.specs.WideColumnSteps.{difference_of}
+use Rattle.bitpack_wide.specs.inner.WideColumnSteps.{difference_of}
 use Rattle.bitpack_wide.specs.WideColumnFaults.{is_front}
 use Rattle.bitpack_wide.proofs.WideFilled.{begins, ends, starts}
 use Rattle.bitpack_wide.proofs.wide_column.filling.is_front_same.Goals as goal

@@ -3,7 +3,7 @@ use Rattle.std.proofs.Common.{◌+◌, ◌^◌, ◌&&◌, ℕ, Bool, ap, arith, 
 use Rattle.bitpack_slices.specs.Reads.{has}
 use Rattle.bitpack_sets.specs.Opened.{ids}
 use Rattle.bitpack_wide.specs.WideColumnFaults.{each_below}
-use Rattle.bitpack_wide.specs.WideColumnSteps.{difference_of, is_as_before, is_first_same}
+use Rattle.bitpack_wide.specs.inner.WideColumnSteps.{difference_of, is_as_before, is_first_same}
 use Rattle.bitpack_wide.proofs.WideFilled.{all_missing, and_no, each_filled, none_filled, none_missing}
 use Rattle.bitpack_wide.proofs.WideSame.{set_rises}
 use Rattle.bitpack_wide.proofs.WideSteps.{each_false}

@@ -3,7 +3,7 @@ use Rattle.std.proofs.Common.{◌≡◌, ◌+◌, ℕ, Bool, length, refl, ap, a
 use Rattle.bitpack_slices.specs.Reads.{has}
 use Rattle.bitpack_sets.specs.Opened.{ids}
 use Rattle.bitpack_wide.specs.WideColumnFaults.{each_below}
-use Rattle.bitpack_wide.specs.WideColumnSteps.{difference_of, is_as_before}
+use Rattle.bitpack_wide.specs.inner.WideColumnSteps.{difference_of, is_as_before}
 use Rattle.bitpack_wide.proofs.wide_column.filling.test_next.Goals as goal
 
 pub returns-then-not-are_as_before_in-clause-none : goal.returns-then-not-are_as_before_in-clause-none

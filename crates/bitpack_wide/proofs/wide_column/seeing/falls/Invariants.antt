@@ -1,7 +1,7 @@
 -- The values so far rise.
 use Rattle.std.proofs.Common.{◌≡◌, ◌-◌, ◌≤◌, true, length, slice_index}
 use Rattle.bitpack_columns.specs.Opened.{values}
-use Rattle.bitpack_wide.specs.WideColumnSteps.{SeesRise}
+use Rattle.bitpack_wide.specs.inner.WideColumnSteps.{SeesRise}
 use Rattle.bitpack_wide.proofs.wide_column.seeing.falls.Given as goal
 
 abbrev pub invariant-loop-from : goal.invariant-loop-from

@@ -1,7 +1,7 @@
 -- Whether the numbers so far fall.
 use Rattle.std.proofs.Common.{◌≡◌, ◌+◌, ℕ, not, true}
 use Rattle.bitpack_wide.specs.WideColumnFaults.{rise}
-use Rattle.bitpack_wide.specs.WideColumnSteps.{SeesRise}
+use Rattle.bitpack_wide.specs.inner.WideColumnSteps.{SeesRise}
 use Rattle.bitpack_wide.specs.WideColumnSound.{IsPart}
 use Rattle.bitpack_wide.proofs.wide_column.seeing.falls_after.Given as goal
 

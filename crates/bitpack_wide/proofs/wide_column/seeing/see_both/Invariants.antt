@@ -1,6 +1,6 @@
 -- What was seen of the differences so far.
 use Rattle.std.proofs.Common.{◌≡◌, ◌-◌, ◌≤◌}
-use Rattle.bitpack_wide.specs.WideColumnSteps.{Sees, SeesRise, difference_of}
+use Rattle.bitpack_wide.specs.inner.WideColumnSteps.{Sees, SeesRise, difference_of}
 use Rattle.bitpack_wide.proofs.wide_column.seeing.see_both.Given as goal
 
 abbrev pub invariant-loop-from : goal.invariant-loop-from

@@ -1,6 +1,6 @@
 -- What was seen of the numbers so far.
 use Rattle.std.proofs.Common.{◌-◌, ◌≤◌}
-use Rattle.bitpack_wide.specs.WideColumnSteps.{Sees, difference_of}
+use Rattle.bitpack_wide.specs.inner.WideColumnSteps.{Sees, difference_of}
 use Rattle.bitpack_wide.proofs.wide_column.seeing.see_low.Given as goal
 
 abbrev pub invariant-loop-from : goal.invariant-loop-from

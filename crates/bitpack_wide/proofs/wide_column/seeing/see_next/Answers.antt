@@ -1,6 +1,6 @@
 -- The part has the next differences.
 use Rattle.std.proofs.Common.{◌≡◌, ◌+◌, ℕ, length, arith, subst}
-use Rattle.bitpack_wide.specs.WideColumnSteps.{Sees, SeesRise, difference_of}
+use Rattle.bitpack_wide.specs.inner.WideColumnSteps.{Sees, SeesRise, difference_of}
 use Rattle.bitpack_wide.proofs.wide_column.seeing.see_next.Goals as goal
 
 pub returns-clause-sees : goal.returns-clause-sees

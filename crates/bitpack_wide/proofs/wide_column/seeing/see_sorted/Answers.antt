@@ -1,6 +1,6 @@
 -- In order, the first difference is the least and the last one the greatest.
 use Rattle.std.proofs.Common.{◌≡◌, ◌+◌, ◌-◌, ◌<◌, ◌≤◌, ℕ, eqb, ap, arith, ◌∙◌}
-use Rattle.bitpack_wide.specs.WideColumnSteps.{difference_of}
+use Rattle.bitpack_wide.specs.inner.WideColumnSteps.{difference_of}
 use Rattle.bitpack_wide.proofs.WideSeen.{column_order, narrow_is, ordered_rise, ordered_sees}
 use Rattle.bitpack_wide.proofs.wide_column.seeing.see_sorted.Goals as goal
 

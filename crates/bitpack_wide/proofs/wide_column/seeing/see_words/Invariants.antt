@@ -1,6 +1,6 @@
 -- What was seen of the numbers so far.
 use Rattle.std.proofs.Common.{◌+◌, ℕ}
-use Rattle.bitpack_wide.specs.WideColumnSteps.{Sees}
+use Rattle.bitpack_wide.specs.inner.WideColumnSteps.{Sees}
 use Rattle.bitpack_wide.specs.WideColumnSound.{IsPart}
 use Rattle.bitpack_wide.proofs.wide_column.seeing.see_words.Given as goal
 

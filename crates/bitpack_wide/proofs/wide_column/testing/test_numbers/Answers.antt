@@ -3,7 +3,7 @@ use Rattle.std.proofs.Common.{◌+◌, ℕ, Bool, ◌&&◌, refl, sym, ◌∙◌
 use Rattle.bitpack_slices.specs.Reads.{has}
 use Rattle.bitpack_slices.proofs.ForCallers.{true_both}
 use Rattle.bitpack_sets.specs.Opened.{ids}
-use Rattle.bitpack_wide.specs.WideColumnSteps.{column_has_kind, difference_of, high_has_kind, is_right}
+use Rattle.bitpack_wide.specs.inner.WideColumnSteps.{column_has_kind, difference_of, high_has_kind, is_right}
 use Rattle.bitpack_wide.specs.WideColumnFaults.{each_below, has_bounds, is_filled}
 use Rattle.bitpack_wide.proofs.WideRight.{first_no, later_no}
 use Rattle.bitpack_wide.proofs.wide_column.testing.test_numbers.Goals.{then-not-has_kind-via-then-not-has_kind, then-not-has_kind-via-else-not-has_kind+then-not-high_has_kind}
