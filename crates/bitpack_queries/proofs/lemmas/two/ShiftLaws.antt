@@ -1,7 +1,7 @@
 -- Ids between two numbers, and what they become if a number is added to each.
-use Rattle.std.proofs.Common.{◌≡◌, ℕ, zero, suc, ◌+◌, ◌-◌, ◌*◌, ◌/◌, ◌%◌, ◌^◌, ◌<◌, ◌≤◌, ◌&&◌, ◌||◌, Bool, true, false, cond, eqb, leb, ltb, List, [], ◌∷◌, ◌++◌, drop, get_or, length, map, min, slice_get, Some, take, refl, sym, ap, ◌∙◌, arith, inl, inr, subst}
+use Rattle.std.proofs.Common.{◌≡◌, ℕ, suc, ◌+◌, ◌-◌, ◌*◌, ◌/◌, ◌%◌, ◌^◌, ◌<◌, ◌≤◌, ◌&&◌, ◌||◌, Bool, false, cond, eqb, leb, ltb, List, [], ◌∷◌, ◌++◌, drop, get_or, length, map, min, slice_get, Some, take, refl, sym, ap, ◌∙◌, arith, inl, inr, subst}
 use Rattle.std.proofs.lemmas.Bool.{cases_lt, le-leb, lt-leb, lt-ltb, ne_eqb}
-use Rattle.std.proofs.lemmas.List.{append-nil, drop_all, length-map, length-take-le, length-drop, take_all}
+use Rattle.std.proofs.lemmas.List.{append-nil, length-map, length-take-le, length-drop, take_all}
 use Rattle.std.proofs.Math.Nat.{min-eq_left}
 use Rattle.std.proofs.lemmas.Option.{get_or_from_slice_get, slice_get_within}
 use Rattle.bitpack_slices.proofs.ForCallers.{eqb_same, has_below, le_self, none_pass, rank_above, rank_below, rank_le, rank_under, rising_at, rising_lower, rising_room, rising_top, those_are, those_part, those_same}
@@ -10,7 +10,6 @@ use Rattle.bitpack_slices.specs.Operations.{those}
 use Rattle.bitpack_slices.specs.Reads.{has, rank}
 use Rattle.bitpack_queries.specs.Pairs.{IsPart}
 use Rattle.bitpack_queries.specs.Shifts.{has_moved, moved}
-use Rattle.bitpack_queries.proofs.lemmas.two.AnswerLaws.{part_first}
 
 -- those from one number to before another
 abbrev pub between : ℕ → ℕ → List ℕ → List ℕ

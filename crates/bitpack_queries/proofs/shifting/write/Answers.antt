@@ -1,5 +1,5 @@
 -- Without work space for all ids they are many, and a set in chunks.
-use Rattle.std.proofs.Common.{IfSome, List, Option, Result, ap, arith, length, min, refl, subst, ℕ, ◌≡◌, ◌+◌, ◌-◌, ◌*◌, ◌^◌, ◌≤◌, ◌∙◌}
+use Rattle.std.proofs.Common.{IfSome, List, Option, Result, ap, arith, length, refl, subst, ℕ, ◌≡◌, ◌+◌, ◌-◌, ◌^◌, ◌∙◌}
 use Rattle.bitpack_slices.proofs.ForCallers.{rank_le, those_rise}
 use Rattle.bitpack_slices.specs.Reads.{rank}
 use Rattle.bitpack_slices.specs.declared.set_error.SetError.{SetError}

@@ -1,5 +1,5 @@
 -- The ids that stay are copied and shifted: they are the set.
-use Rattle.std.proofs.Common.{◌≡◌, ◌^◌, arith, length, subst, sym}
+use Rattle.std.proofs.Common.{◌^◌, arith, subst, sym}
 use Rattle.bitpack_slices.proofs.ForCallers.{those_rise}
 use Rattle.bitpack_sets.specs.Opened.{ids}
 use Rattle.bitpack_sets.specs.Sets.{IsSet}

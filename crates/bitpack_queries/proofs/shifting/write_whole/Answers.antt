@@ -1,9 +1,7 @@
 -- What is gathered is that of the ids.
-use Rattle.std.proofs.Common.{IfSome, List, Option, Result, subst, ℕ, ◌^◌}
+use Rattle.std.proofs.Common.{List, ℕ, ◌^◌}
 use Rattle.bitpack_slices.proofs.ForCallers.{those_rise}
-use Rattle.bitpack_slices.specs.declared.set_error.SetError.{SetError}
 use Rattle.bitpack_sets.specs.Opened.{ids}
-use Rattle.bitpack_queries.specs.Gathered.{Fills, IsGathered}
 use Rattle.bitpack_queries.specs.Shifts.{has_moved, moved}
 use Rattle.bitpack_queries.proofs.lemmas.two.GatheredLaws.{gathered_counted}
 use Rattle.bitpack_queries.proofs.lemmas.two.WholeLaws.{written_of}

@@ -1,10 +1,9 @@
 -- One chunk more is gathered.
-use Rattle.std.proofs.Common.{◌≡◌, ℕ, ◌+◌, ◌-◌, ◌*◌, ◌/◌, ◌^◌, ◌<◌, ◌≤◌, Bool, List, Some, arith, ap, length, map, min, take, drop, slice_get, slice_index, sym, subst, refl, ◌∙◌}
+use Rattle.std.proofs.Common.{ℕ, ◌+◌, ◌-◌, ◌*◌, ◌/◌, ◌^◌, ◌<◌, ◌≤◌, Bool, List, arith, ap, length, slice_index, sym, subst, refl, ◌∙◌}
 use Rattle.std.specs.Option.{IsSome}
-use Rattle.std.proofs.lemmas.List.{length-append, length-drop, length-map, length-take-le}
+use Rattle.std.proofs.lemmas.List.{length-take-le}
 use Rattle.std.proofs.lemmas.Option.{slice_get-get_or}
 use Rattle.bitpack_slices.proofs.ForCallers.{rank_le, those_few, those_rise}
-use Rattle.bitpack_slices.specs.Bodies.{parts}
 use Rattle.bitpack_slices.specs.Follows.{Follow}
 use Rattle.bitpack_slices.specs.Operations.{those}
 use Rattle.bitpack_slices.specs.Reads.{rank}
@@ -14,9 +13,9 @@ use Rattle.bitpack_sets.specs.Sets.{body}
 use Rattle.bitpack_sets.specs.Written.{IsChunk, lows}
 use Rattle.bitpack_queries.specs.Shifts.{has_moved, moved}
 use Rattle.bitpack_queries.proofs.lemmas.two.CountLaws.{set_is}
-use Rattle.bitpack_queries.proofs.lemmas.two.GatherLaws.{follow_long, gather_done, gather_few, gather_key, next_chunk}
+use Rattle.bitpack_queries.proofs.lemmas.two.GatherLaws.{gather_done, gather_few, gather_key, next_chunk}
 use Rattle.bitpack_queries.proofs.lemmas.two.GatheredLaws.{chunks_few}
-use Rattle.bitpack_queries.proofs.lemmas.two.ShiftLaws.{IsStep, copied, later, none_later, move, moved_few, stays, step}
+use Rattle.bitpack_queries.proofs.lemmas.two.ShiftLaws.{copied, later, none_later, move, moved_few, stays, step}
 use Rattle.bitpack_queries.proofs.shifting.gathering.gather.Goals as goal
 
 pub unwrap-requires : goal.unwrap-requires

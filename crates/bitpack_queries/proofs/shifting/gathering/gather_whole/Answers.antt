@@ -1,15 +1,13 @@
 -- One chunk more is gathered.
-use Rattle.std.proofs.Common.{◌≡◌, ◌≢◌, ℕ, ◌+◌, ◌-◌, ◌*◌, ◌/◌, ◌^◌, ◌<◌, ◌≤◌, Bool, List, arith, ap, inl, inr, length, min, refl, set, sym, subst, ◌∙◌}
+use Rattle.std.proofs.Common.{◌≡◌, ℕ, ◌+◌, ◌-◌, ◌*◌, ◌/◌, ◌^◌, ◌<◌, ◌≤◌, List, arith, ap, inl, inr, length, min, refl, set, sym, subst, ◌∙◌}
 use Rattle.std.proofs.lemmas.Bool.{cases_lt}
-use Rattle.bitpack_slices.proofs.ForCallers.{rising_room, those_are, those_few, those_rise}
-use Rattle.bitpack_slices.specs.Bodies.{IsRising, parts}
-use Rattle.bitpack_slices.specs.Follows.{Follow}
+use Rattle.bitpack_slices.proofs.ForCallers.{rising_room, those_are, those_rise}
+use Rattle.bitpack_slices.specs.Bodies.{IsRising}
 use Rattle.bitpack_slices.specs.Operations.{those}
 use Rattle.bitpack_slices.specs.Reads.{has}
-use Rattle.bitpack_sets.specs.Chunks.{first_key, ids_from, lows_between, positions}
+use Rattle.bitpack_sets.specs.Chunks.{ids_from, lows_between, positions}
 use Rattle.bitpack_sets.specs.Opened.{ids}
 use Rattle.bitpack_sets.specs.Sets.{body}
-use Rattle.bitpack_queries.specs.Pairs.{IsPart}
 use Rattle.bitpack_queries.specs.Shifts.{has_moved, moved}
 use Rattle.bitpack_queries.proofs.lemmas.two.CountLaws.{set_is}
 use Rattle.bitpack_queries.proofs.lemmas.two.GatherLaws.{Gathering, follow_long, gather_done, gather_few, gather_key, gather_start, next_chunk}

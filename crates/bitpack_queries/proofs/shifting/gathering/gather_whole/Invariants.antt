@@ -1,5 +1,5 @@
 -- What is gathered of the chunks so far, and what is left.
-use Rattle.std.proofs.Common.{◌≡◌, ℕ, ◌+◌, ◌-◌, ◌*◌, ◌/◌, ◌^◌, ◌<◌, ◌≤◌, false, length}
+use Rattle.std.proofs.Common.{◌≡◌, ℕ, ◌-◌, ◌*◌, ◌/◌, ◌^◌, ◌<◌, ◌≤◌, false, length}
 use Rattle.bitpack_slices.specs.Operations.{those}
 use Rattle.bitpack_slices.specs.Reads.{has}
 use Rattle.bitpack_sets.specs.Chunks.{first_key, ids_from, positions}
