@@ -64,6 +64,7 @@ impl<'a> IdSet<'a> {
 
     /// The set whose bytes were opened before: they are not tested again. It is for a caller who stores only the bytes of sets that were
     /// opened.
+    #[inline(always)]
     pub fn of_tested(bytes: &'a [u8]) -> IdSet<'a>
         // claim: sets/11 `of_tested` and `from_parts` open bytes that are required to be valid, without a test
         requires sound { fault bytes.now ≡ None }
@@ -75,6 +76,7 @@ impl<'a> IdSet<'a> {
     }
 
     /// The set of these bytes, by the parts that [`parts`](IdSet::parts) returned of it. Reads none of the bytes.
+    #[inline(always)]
     pub fn from_parts(bytes: &'a [u8], parts: Parts<'a>) -> IdSet<'a>
         requires { States bytes.now parts.count parts.chunks parts.rest.now }
         ensures bytes { encoding_of result ≡ bytes.now }

@@ -71,6 +71,7 @@ pub(crate) fn test_encoding<'a>(bytes: &'a [u8]) -> Result<Parts<'a>, SetError>
 }
 
 /// What the first bytes of an encoding without a fault state, and what is after them.
+#[inline(always)]
 pub(crate) fn read_parts<'a>(bytes: &'a [u8]) -> Parts<'a>
     requires { fault bytes.now ≡ None }
     ensures { States bytes.now result.count result.chunks result.rest.now }

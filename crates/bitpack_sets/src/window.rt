@@ -108,19 +108,20 @@ impl Window {
             self.next += 1;
             return Some(self.unpacked[self.next - self.begin]);
         }
-        self.advance_after(set)
+        self.advance_after(*set)
     }
 
     /// Passes over the last id that is unpacked, and unpacks more.
+    // It takes the set itself, so that a caller whose next id is unpacked needs none in memory.
     #[inline(never)]
-    fn advance_after(&mut self, set: &IdSet<'_>) -> Option<u32>
-        requires window { IsWindow (encoding_of set.now) self.old }
+    fn advance_after(&mut self, set: IdSet<'_>) -> Option<u32>
+        requires window { IsWindow (encoding_of set) self.old }
         requires last { self.old.end ≤ self.old.next + 1 }
-        ensures window { IsWindow (encoding_of set.now) self.new }
-        ensures next { self.new.next ≡ min (length (ids set.now)) (self.old.next + 1) }
-        ensures id { result ≡ slice_get (ids set.now) self.new.next }
+        ensures window { IsWindow (encoding_of set.entry) self.new }
+        ensures next { self.new.next ≡ min (length (ids set.entry)) (self.old.next + 1) }
+        ensures id { result ≡ slice_get (ids set.entry) self.new.next }
     {
-        self.unpack_from(&mut self.after(set));
+        self.unpack_from(&mut self.after(&set));
         self.value()
     }
 
