@@ -27,3 +27,8 @@ mod set_roaring;
 mod set_types;
 mod wide_sets;
 mod wide_types;
+
+/// The rounds of a test. A release runs all; a build with debug assertions runs each third, since models are slow there.
+fn rounds(count: u32) -> impl Iterator<Item = u32> {
+    (0..count).step_by(if cfg!(debug_assertions) { 3 } else { 1 })
+}

@@ -54,6 +54,8 @@ FIRST_COPY = {"BITPACKING_FIRST_COPY": "1"}
 SHARED = ("bitpacking::growing::", "bitpacking::slices::operation::", "bitpacking::ranking::term::")
 # The tests that run under valgrind, by parts of their names.
 FILLING = ["column_reading", "column_searching", "column_appending", "set_combining::two_sets", "set_iter", "do_not_fit", "wide_sets::both"]
+# What no debugger reads.
+UNNAMED = {"CARGO_PROFILE_DEV_DEBUG": "0"}
 MANIFEST = '[package]\nname = "{}"\nversion = "0.0.0"\nedition = "2024"\n\n[dependencies]\n{}\n'
 
 
@@ -65,7 +67,7 @@ def home():
 
 def called(*words, folder=ROOT, **variables):
     """Calls cargo in a folder."""
-    env = {**os.environ, "CARGO_HOME": home().name, **variables}
+    env = {**os.environ, **UNNAMED, "CARGO_HOME": home().name, **variables}
     return run("cargo", *words, folder=folder, stderr=subprocess.PIPE, env=env)
 
 
@@ -223,7 +225,8 @@ def random():
     """Random calls, by both copies of the modules, each as a name and what is wrong, or None. Both damaged bytes that open and those that do not have
     to be among them."""
     for name, variables in ("random calls", {}), ("random calls of the first copy", FIRST_COPY):
-        done = cargo("run", "--quiet", "--release", "--bin", "random", "--", "400", "0", package="rust/fuzz", **variables)
+        unlinked = {"CARGO_PROFILE_RELEASE_LTO": "off", **variables}
+        done = cargo("run", "--quiet", "--release", "--bin", "random", "--", "400", "0", package="rust/fuzz", **unlinked)
         counted = re.search(r"^damaged bytes: [1-9]\d+ opened, [1-9]\d+ did not$", done.stdout, re.M)
         yield name, None if done.returncode == 0 and counted else f"{done.stdout[-300:]}{done.stderr[-3000:]}"
 

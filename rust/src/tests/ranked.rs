@@ -2,6 +2,7 @@
 
 use std::vec::Vec;
 
+use super::rounds;
 use crate::column::{ColumnBuf, Kind};
 use crate::ranked::{BoundedTerm, CLASSES, Error, Term, best, best_among};
 use crate::ranking;
@@ -112,8 +113,8 @@ fn same_as_a_scan() {
         state = state.wrapping_mul(6364136223846793005).wrapping_add(1442695040888963407);
         (state >> 33) % below
     };
-    for round in 0..40 {
-        let documents = [300, 300, 3000, 3000, 3000, 3000, 3000, 20_000][round % 8];
+    for round in rounds(40) {
+        let documents = [300, 300, 3000, 3000, 3000, 3000, 3000, 20_000][round as usize % 8];
         let classes: Vec<u8> = (0..documents - documents / 8).map(|_| [0, 3, 3, 40, 255][random(5) as usize]).collect();
         let words: Vec<Word> = (0..1 + random(5))
             .map(|_| {

@@ -4,6 +4,7 @@ use alloc::vec;
 use alloc::vec::Vec;
 use std::panic::catch_unwind;
 
+use super::rounds;
 use super::set_models::{FORMS, Model, Numbers, listed, packed, some_ids, used};
 use super::set_reading::longest;
 use crate::set::{
@@ -35,7 +36,7 @@ fn answers(one: &Model, other: &Model) -> [Vec<u32>; 4] {
 #[test]
 fn two_sets() {
     let mut numbers = Numbers(4);
-    for round in 0..FORMS * FORMS {
+    for round in rounds(FORMS * FORMS) {
         let (one, other) = pair(&mut numbers, round);
         let right = answers(&one, &other);
         let (a, b) = (packed(&one), packed(&other));
@@ -90,7 +91,7 @@ fn two_sets() {
 fn many_sets() {
     let mut numbers = Numbers(5);
     let mut ids = Vec::new();
-    for count in (0..=6).chain([20, 70]).cycle().take(40) {
+    for count in (0..=6).chain([20, 70]).cycle().take(rounds(40).count()) {
         let forms = if count > 6 { 8 } else { FORMS };
         let models: Vec<Model> = (0..count)
             .map(|_| {
@@ -182,7 +183,7 @@ fn more_ids_than_a_set_has() {
 #[test]
 fn vectors_in_place() {
     let mut numbers = Numbers(6);
-    for round in 0..FORMS * FORMS {
+    for round in rounds(FORMS * FORMS) {
         let (one, other) = pair(&mut numbers, round);
         let (ids, set) = (listed(&one), packed(&other));
         let [shared, any, alone, _] = answers(&one, &other);

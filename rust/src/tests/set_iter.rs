@@ -4,6 +4,7 @@ use alloc::vec::Vec;
 use core::ops::Bound;
 use core::ops::Bound::{Excluded, Included, Unbounded};
 
+use super::rounds;
 use super::set_models::{FORMS, Model, Numbers, listed, packed, some_ids};
 use super::set_reading::in_slices;
 use crate::set::{Cursor, IdSet, IdSetBuf, Iter, SetCursor};
@@ -92,7 +93,7 @@ fn consumed_sets() {
 fn ranges() {
     for (mut numbers, model, set) in sets(70) {
         let ids = listed(&model);
-        for _ in 0..60 {
+        for _ in rounds(60) {
             let mut limit = || match numbers.below(5) {
                 0 => [0, 1, u32::MAX - 1, u32::MAX][numbers.below(4) as usize],
                 1 => numbers.next(),

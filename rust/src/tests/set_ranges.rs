@@ -3,6 +3,7 @@
 use alloc::vec::Vec;
 use core::ops::Bound;
 
+use super::rounds;
 use super::set_models::{FORMS, Model, Numbers, listed, packed, some_ids};
 use super::set_reading::longest;
 use crate::set::{Error, IdSetBuf};
@@ -50,7 +51,7 @@ fn ranges_of_ids() {
 #[test]
 fn put_in_and_taken_out() {
     let mut numbers = Numbers(22);
-    for round in 0..4 * FORMS {
+    for round in rounds(4 * FORMS) {
         let mut model = some_ids(&mut numbers, round % FORMS);
         let mut set = packed(&model);
         for _ in 0..4 {
@@ -93,7 +94,7 @@ fn put_in_and_taken_out() {
 #[test]
 fn moved_by_a_number() {
     let mut numbers = Numbers(23);
-    for round in 0..10 * FORMS {
+    for round in rounds(10 * FORMS) {
         let model = some_ids(&mut numbers, round % FORMS);
         let set = packed(&model);
         let far = i64::from(numbers.next());
