@@ -5,13 +5,18 @@ import numpy as np
 
 def bitmap(ids, as_runs):
     """The bytes of the bitmap of ids, each container as runs, or as an array or bits."""
-    keys, bodies, counts = np.unique(ids >> 16), [], []
-    for key in keys:
-        low = (ids[ids >> 16 == key] & 0xFFFF).astype("i8")
-        firsts, lasts = low[np.diff(low, prepend=-2) > 1], low[np.diff(low, append=65537) > 1]
-        runs = np.append(len(firsts), np.stack([firsts, lasts - firsts], 1))
-        bits = np.packbits(np.isin(np.arange(65536), low), bitorder="little")
-        bodies.append(runs.astype("<u2").tobytes() if as_runs else low.astype("<u2").tobytes() if len(low) <= 4096 else bits.tobytes())
+    (keys, starts), bodies, counts = np.unique(ids >> 16, return_index=True), [], []
+    for low in np.split((ids & 0xFFFF).astype("i8"), starts[1:])[: len(keys)]:
+        if as_runs:
+            firsts, lasts = low[np.diff(low, prepend=-2) > 1], low[np.diff(low, append=65537) > 1]
+            body = np.append(len(firsts), np.stack([firsts, lasts - firsts], 1)).astype("<u2")
+        elif len(low) <= 4096:
+            body = low.astype("<u2")
+        else:
+            bits = np.zeros(65536, "?")
+            bits[low] = True
+            body = np.packbits(bits, bitorder="little")
+        bodies.append(body.tobytes())
         counts.append(len(low) - 1)
     count, head = len(keys), b"\x3A\x30\0\0" + len(keys).to_bytes(4, "little")
     if as_runs:
