@@ -166,11 +166,13 @@ def sanitized(package):
     yield "building and installing in one step", package.call(*install_it, CFLAGS=flags, **near)
     library = run("cc", "-print-file-name=libasan.so").stdout.strip()
     known = {"PYTHONPATH": to, "LD_PRELOAD": library, "PYTHONMALLOC": "malloc"}
-    known |= {"ASAN_OPTIONS": "detect_leaks=0:exitcode=99", "UBSAN_OPTIONS": "print_stacktrace=1"}
+    known |= {"ASAN_OPTIONS": "detect_leaks=0:exitcode=99", "UBSAN_OPTIONS": "print_stacktrace=1", "FIMULOWEN_EXAMPLES": "25"}
     # Memory that is given back stays with the sanitizer for a while, so that rounds of calls take more; it says nothing of locks.
     left_out = ["test_memory.py::test_constant", "test_threads.py::test_lock_is_released"]
     left_out += [f"test_column_calls.py::{it}" for it in ("test_constant", "test_lock_is_released")]
     left_out += ["test_ranked.py::test_lock_is_released"]
+    # Of the random programs, which take the most time, a quarter: the wheel runs all.
+    left_out += [f"test_machine64.py::test_programs[{it}]" for it in range(5, 20)]
     without = [f"--deselect=tests/{it}" for it in left_out]
     yield package.tested("under the address sanitizer", "tests", *without, **known)
 
