@@ -21,6 +21,7 @@ pub use Rattle.bitpack_slices.proofs.lemmas.numbers.JoinReads.{keys_rise, none, 
 pub use Rattle.bitpack_slices.proofs.lemmas.numbers.KeyLaws.{AreOf, lows_in}
 pub use Rattle.bitpack_slices.proofs.lemmas.bodies.LoadLaws.{has_those, those_are, those_rise}
 pub use Rattle.bitpack_slices.proofs.lemmas.bodies.LongLaws.{Below, counts, flat_len, keys, total}
+pub use Rattle.bitpack_slices.proofs.lemmas.numbers.MergeLaws.{answer_ended, answer_ended', answer_left, answer_right, answer_step}
 pub use Rattle.bitpack_slices.proofs.lemmas.bits.OnesLaws.{number_little, ones_all, ones_rise, rising_lower}
 pub use Rattle.bitpack_slices.proofs.lemmas.numbers.QueryIds.{all_from, head_left_out, head_retained, none_from}
 pub use Rattle.bitpack_slices.proofs.lemmas.bits.RaisedLaws.{map_raised, rising_append}

@@ -1,6 +1,6 @@
--- The answer of two lists, from the lowest id of both on.
+-- What an operation on two lists gives below a bound, from the lowest number of both on.
 use mir.Val.{bool_byte}
-use Rattle.std.proofs.Common.{◌≡◌, ℕ, ◌+◌, ◌^◌, ◌<◌, ◌≤◌, Bool, true, false, ◌||◌, leb, List, [], ◌∷◌, ◌++◌, map, drop, length, get_or, min, refl, sym, ap, ◌∙◌, arith, cond, subst, inl, inr, append-nil, eq-eqb}
+use Rattle.std.proofs.Common.{◌≡◌, ℕ, ◌+◌, ◌<◌, ◌≤◌, Bool, true, false, ◌||◌, leb, List, [], ◌∷◌, ◌++◌, map, drop, length, get_or, min, refl, sym, ap, ◌∙◌, arith, cond, subst, inl, inr, append-nil, eq-eqb}
 use Rattle.std.proofs.lemmas.Bool.{cases_lt, le-leb, lt-leb, ne_eqb}
 use Rattle.std.proofs.lemmas.List.{drop_all, drop_more}
 use Rattle.bitpack_slices.proofs.lemmas.numbers.AnswerLaws.{each, none_left, none_pass, none_right, those_part}
@@ -10,7 +10,7 @@ use Rattle.bitpack_slices.proofs.lemmas.bodies.ReadLaws.{has_below}
 use Rattle.bitpack_slices.proofs.lemmas.slices.SelectionLaws.{retained, retained_right}
 use Rattle.bitpack_slices.proofs.lemmas.slices.SliceLaws.{rising_room}
 use Rattle.bitpack_slices.proofs.lemmas.numbers.RangeLaws.{rising_drop}
-use Rattle.bitpack_slices.specs.Operations.{answer, apply, those}
+use Rattle.bitpack_slices.specs.Operations.{apply, combined, those}
 use Rattle.bitpack_slices.specs.Reads.{has}
 use Rattle.bitpack_slices.specs.Bodies.{IsRising}
 use Rattle.bitpack_slices.specs.declared.operation.Operation.{Operation}
@@ -56,53 +56,53 @@ past_later low high v xs r h = record {
   above = λ x less. refl;
 }
 
-answer_first : (operation : Operation) (v : ℕ) (p q : Bool) (xs xs' ys ys' : List ℕ) → v < 2 ^ 32 → IsPast v xs xs' → IsPast v ys ys' → has v xs ≡ p → has v ys ≡ q
-    → answer operation xs ys ≡ cond (apply operation p q) (v ∷ []) [] ++ answer operation xs' ys'
-answer_first operation v p q xs xs' ys ys' small a b e f =
-    those_first (2 ^ 32) v (λ x. apply operation (has x xs) (has x ys)) (λ x. apply operation (has x xs') (has x ys')) small
+answer_first : (n : ℕ) (operation : Operation) (v : ℕ) (p q : Bool) (xs xs' ys ys' : List ℕ) → v < n → IsPast v xs xs' → IsPast v ys ys' → has v xs ≡ p → has v ys ≡ q
+    → combined n operation xs ys ≡ cond (apply operation p q) (v ∷ []) [] ++ combined n operation xs' ys'
+answer_first n operation v p q xs xs' ys ys' small a b e f =
+    those_first n v (λ x. apply operation (has x xs) (has x ys)) (λ x. apply operation (has x xs') (has x ys')) small
     (λ x h. apply_none operation (has x xs) (has x ys) (a.below x h) (b.below x h))
     (λ x h. apply_none operation (has x xs') (has x ys') (a.passed x h) (b.passed x h))
     (λ x h. each operation (has x xs) (has x xs') (has x ys) (has x ys') (a.above x h) (b.above x h))
-    ∙ ap (λ (c : Bool). cond c (v ∷ []) [] ++ answer operation xs' ys') (each operation (has v xs) p (has v ys) q e f)
+    ∙ ap (λ (c : Bool). cond c (v ∷ []) [] ++ combined n operation xs' ys') (each operation (has v xs) p (has v ys) q e f)
 
 there : (v : ℕ) (xs : List ℕ) → has v (v ∷ xs) ≡ true
 there v xs = ap (λ (b : Bool). b || has v xs) (eq-eqb v v refl)
 
 -- one step, when the lowest of both is written if it is in the answer
-step : (operation : Operation) (low low' x y : ℕ) (xs ys : List ℕ) → IsRising low (2 ^ 32) (x ∷ xs) → IsRising low' (2 ^ 32) (y ∷ ys)
-    → answer operation (x ∷ xs) (y ∷ ys) ≡ cond (apply operation (leb x y) (leb y x)) (min x y ∷ []) [] ++ answer operation (drop (bool_byte (leb x y)) (x ∷ xs)) (drop (bool_byte (leb y x)) (y ∷ ys))
-step operation low low' x y xs ys r s =
-    let room = rising_room low (2 ^ 32) (x ∷ xs) r in
+step : (n : ℕ) (operation : Operation) (low low' x y : ℕ) (xs ys : List ℕ) → IsRising low n (x ∷ xs) → IsRising low' n (y ∷ ys)
+    → combined n operation (x ∷ xs) (y ∷ ys) ≡ cond (apply operation (leb x y) (leb y x)) (min x y ∷ []) [] ++ combined n operation (drop (bool_byte (leb x y)) (x ∷ xs)) (drop (bool_byte (leb y x)) (y ∷ ys))
+step n operation low low' x y xs ys r s =
+    let room = rising_room low n (x ∷ xs) r in
     let (a, r') = r in
     let (b, s') = s in
-    let top = rising_room (x + 1) (2 ^ 32) xs r' in
-    let top' = rising_room (y + 1) (2 ^ 32) ys s' in
-    let goal : Bool → Bool → ℕ → Type 0 = λ p q m. answer operation (x ∷ xs) (y ∷ ys)
-    ≡ cond (apply operation p q) (m ∷ []) [] ++ answer operation (drop (bool_byte p) (x ∷ xs)) (drop (bool_byte q) (y ∷ ys)) in
+    let top = rising_room (x + 1) n xs r' in
+    let top' = rising_room (y + 1) n ys s' in
+    let goal : Bool → Bool → ℕ → Type 0 = λ p q m. combined n operation (x ∷ xs) (y ∷ ys)
+    ≡ cond (apply operation p q) (m ∷ []) [] ++ combined n operation (drop (bool_byte p) (x ∷ xs)) (drop (bool_byte q) (y ∷ ys)) in
     elim (cases_lt x y) [
       | inl less ↦ (
           let e : leb x y ≡ true = le-leb x y (omega arith) in
           let f : leb y x ≡ false = lt-leb y x less in
           let m : min x y ≡ x = omega arith in
           subst (λ (p : Bool). goal p (leb y x) (min x y)) (sym e) (subst (λ (q : Bool). goal true q (min x y)) (sym f) (subst (goal true false) (sym m)
-          (answer_first operation x true false (x ∷ xs) xs (y ∷ ys) (y ∷ ys) (omega arith) (past_first low (2 ^ 32) x xs r)
-          (past_later y (2 ^ 32) x (y ∷ ys) (omega arith, s') less) (there x xs) (has_below x y (2 ^ 32) (y ∷ ys) (omega arith, s') less)))))
+          (answer_first n operation x true false (x ∷ xs) xs (y ∷ ys) (y ∷ ys) (omega arith) (past_first low n x xs r)
+          (past_later y n x (y ∷ ys) (omega arith, s') less) (there x xs) (has_below x y n (y ∷ ys) (omega arith, s') less)))))
       | inr more ↦ elim (cases_lt y x) [
         | inl less ↦ (
             let e : leb x y ≡ false = lt-leb x y less in
             let f : leb y x ≡ true = le-leb y x (omega arith) in
             let m : min x y ≡ y = omega arith in
             subst (λ (p : Bool). goal p (leb y x) (min x y)) (sym e) (subst (λ (q : Bool). goal false q (min x y)) (sym f) (subst (goal false true) (sym m)
-            (answer_first operation y false true (x ∷ xs) (x ∷ xs) (y ∷ ys) ys (omega arith) (past_later x (2 ^ 32) y (x ∷ xs) (omega arith, r') less)
-            (past_first low' (2 ^ 32) y ys s) (has_below y x (2 ^ 32) (x ∷ xs) (omega arith, r') less) (there y ys)))))
+            (answer_first n operation y false true (x ∷ xs) (x ∷ xs) (y ∷ ys) ys (omega arith) (past_later x n y (x ∷ xs) (omega arith, r') less)
+            (past_first low' n y ys s) (has_below y x n (x ∷ xs) (omega arith, r') less) (there y ys)))))
         | inr same ↦ (
             let e : leb x y ≡ true = le-leb x y (omega arith) in
             let f : leb y x ≡ true = le-leb y x (omega arith) in
             let m : min x y ≡ x = omega arith in
             let x_is : y ≡ x = omega arith in
             subst (λ (p : Bool). goal p (leb y x) (min x y)) (sym e) (subst (λ (q : Bool). goal true q (min x y)) (sym f) (subst (goal true true) (sym m)
-            (answer_first operation x true true (x ∷ xs) xs (y ∷ ys) ys (omega arith) (past_first low (2 ^ 32) x xs r)
-            (subst (λ (k : ℕ). IsPast k (y ∷ ys) ys) x_is (past_first low' (2 ^ 32) y ys s)) (there x xs)
+            (answer_first n operation x true true (x ∷ xs) xs (y ∷ ys) ys (omega arith) (past_first low n x xs r)
+            (subst (λ (k : ℕ). IsPast k (y ∷ ys) ys) x_is (past_first low' n y ys s)) (there x xs)
             (ap (λ (k : ℕ). has k (y ∷ ys)) (sym x_is) ∙ there y ys)))))
       ]
     ]
@@ -112,10 +112,10 @@ drop_one true i xs h = refl
 drop_one false i xs h = let e : i + 0 ≡ i = omega arith in sym (drop_more xs i 0 h) ∙ ap (λ (n : ℕ). drop n xs) (sym e)
 
 -- the same of what is left of two lists
-pub answer_step : (operation : Operation) (i j : ℕ) (xs ys : List ℕ) → IsRising 0 (2 ^ 32) xs → IsRising 0 (2 ^ 32) ys → i < length xs → j < length ys
+pub answer_step : (n : ℕ) (operation : Operation) (i j : ℕ) (xs ys : List ℕ) → IsRising 0 n xs → IsRising 0 n ys → i < length xs → j < length ys
     → (x y : ℕ) → x ≡ get_or xs i 0 → y ≡ get_or ys j 0
-    → answer operation (drop i xs) (drop j ys) ≡ cond (apply operation (leb x y) (leb y x)) (min x y ∷ []) [] ++ answer operation (drop (i + bool_byte (leb x y)) xs) (drop (j + bool_byte (leb y x)) ys)
-answer_step operation i j xs ys r s h k x y e f =
+    → combined n operation (drop i xs) (drop j ys) ≡ cond (apply operation (leb x y) (leb y x)) (min x y ∷ []) [] ++ combined n operation (drop (i + bool_byte (leb x y)) xs) (drop (j + bool_byte (leb y x)) ys)
+answer_step n operation i j xs ys r s h k x y e f =
     let first : drop i xs ≡ x ∷ drop (i + 1) xs = drop_more xs i 0 h ∙ ap (λ (n : ℕ). n ∷ drop (i + 1) xs) (sym e) in
     let first' : drop j ys ≡ y ∷ drop (j + 1) ys = drop_more ys j 0 k ∙ ap (λ (n : ℕ). n ∷ drop (j + 1) ys) (sym f) in
     let rest : drop (bool_byte (leb x y)) (x ∷ drop (i + 1) xs) ≡ drop (i + bool_byte (leb x y)) xs =
@@ -123,40 +123,40 @@ answer_step operation i j xs ys r s h k x y e f =
     let rest' : drop (bool_byte (leb y x)) (y ∷ drop (j + 1) ys) ≡ drop (j + bool_byte (leb y x)) ys =
     ap (λ (n : ℕ). drop (bool_byte (leb y x)) (n ∷ drop (j + 1) ys)) f ∙ drop_one (leb y x) j ys k in
     let front : List ℕ = cond (apply operation (leb x y) (leb y x)) (min x y ∷ []) [] in
-    ap (λ (l : List ℕ). answer operation l (drop j ys)) first ∙ ap (answer operation (x ∷ drop (i + 1) xs)) first'
-    ∙ step operation 0 0 x y (drop (i + 1) xs) (drop (j + 1) ys) (subst (IsRising 0 (2 ^ 32)) first (rising_drop 0 (2 ^ 32) i xs r))
-    (subst (IsRising 0 (2 ^ 32)) first' (rising_drop 0 (2 ^ 32) j ys s))
-    ∙ ap (λ (l : List ℕ). front ++ answer operation l (drop (bool_byte (leb y x)) (y ∷ drop (j + 1) ys))) rest
-    ∙ ap (λ (l : List ℕ). front ++ answer operation (drop (i + bool_byte (leb x y)) xs) l) rest'
+    ap (λ (l : List ℕ). combined n operation l (drop j ys)) first ∙ ap (combined n operation (x ∷ drop (i + 1) xs)) first'
+    ∙ step n operation 0 0 x y (drop (i + 1) xs) (drop (j + 1) ys) (subst (IsRising 0 n) first (rising_drop 0 n i xs r))
+    (subst (IsRising 0 n) first' (rising_drop 0 n j ys s))
+    ∙ ap (λ (l : List ℕ). front ++ combined n operation l (drop (bool_byte (leb y x)) (y ∷ drop (j + 1) ys))) rest
+    ∙ ap (λ (l : List ℕ). front ++ combined n operation (drop (i + bool_byte (leb x y)) xs) l) rest'
 
 -- ---- one list alone is left
 
-answer_left : (operation : Operation) (c : Bool) (xs : List ℕ) → IsRising 0 (2 ^ 32) xs → apply operation true false ≡ c → answer operation xs [] ≡ cond c xs []
-answer_left operation true xs r e = those_are (λ x. apply operation (has x xs) false) (2 ^ 32) xs r (λ i h. retained operation (has i xs) e)
-answer_left operation false xs r e = none_pass (2 ^ 32) (λ x. apply operation (has x xs) false) (λ x h. none_left operation (has x xs) e)
+pub answer_left : (n : ℕ) (operation : Operation) (c : Bool) (xs : List ℕ) → IsRising 0 n xs → apply operation true false ≡ c → combined n operation xs [] ≡ cond c xs []
+answer_left n operation true xs r e = those_are (λ x. apply operation (has x xs) false) n xs r (λ i h. retained operation (has i xs) e)
+answer_left n operation false xs r e = none_pass n (λ x. apply operation (has x xs) false) (λ x h. none_left operation (has x xs) e)
 
-answer_right : (operation : Operation) (c : Bool) (ys : List ℕ) → IsRising 0 (2 ^ 32) ys → apply operation false true ≡ c → answer operation [] ys ≡ cond c ys []
-answer_right operation true ys r e = those_are (λ x. apply operation false (has x ys)) (2 ^ 32) ys r (λ i h. retained_right operation (has i ys) e)
-answer_right operation false ys r e = none_pass (2 ^ 32) (λ x. apply operation false (has x ys)) (λ x h. none_right operation (has x ys) e)
+pub answer_right : (n : ℕ) (operation : Operation) (c : Bool) (ys : List ℕ) → IsRising 0 n ys → apply operation false true ≡ c → combined n operation [] ys ≡ cond c ys []
+answer_right n operation true ys r e = those_are (λ x. apply operation false (has x ys)) n ys r (λ i h. retained_right operation (has i ys) e)
+answer_right n operation false ys r e = none_pass n (λ x. apply operation false (has x ys)) (λ x h. none_right operation (has x ys) e)
 
 cond_none : (c : Bool) (xs : List ℕ) → xs ≡ [] → cond c xs [] ≡ []
 cond_none true xs e = e
 cond_none false xs e = refl
 
 -- the first list has ended
-pub answer_ended : (operation : Operation) (p q : Bool) (i j : ℕ) (xs ys : List ℕ) → IsRising 0 (2 ^ 32) xs → IsRising 0 (2 ^ 32) ys → length xs ≤ i
-    → p ≡ apply operation true false → q ≡ apply operation false true → answer operation (drop i xs) (drop j ys) ≡ cond p (drop i xs) [] ++ cond q (drop j ys) []
-answer_ended operation p q i j xs ys r s h e f =
+pub answer_ended : (n : ℕ) (operation : Operation) (p q : Bool) (i j : ℕ) (xs ys : List ℕ) → IsRising 0 n xs → IsRising 0 n ys → length xs ≤ i
+    → p ≡ apply operation true false → q ≡ apply operation false true → combined n operation (drop i xs) (drop j ys) ≡ cond p (drop i xs) [] ++ cond q (drop j ys) []
+answer_ended n operation p q i j xs ys r s h e f =
     let none : drop i xs ≡ [] = drop_all i xs h in
-    ap (λ (l : List ℕ). answer operation l (drop j ys)) none ∙ answer_right operation q (drop j ys) (rising_drop 0 (2 ^ 32) j ys s) (sym f)
+    ap (λ (l : List ℕ). combined n operation l (drop j ys)) none ∙ answer_right n operation q (drop j ys) (rising_drop 0 n j ys s) (sym f)
     ∙ ap (λ (l : List ℕ). l ++ cond q (drop j ys) []) (sym (cond_none p (drop i xs) none))
 
 -- the second list has ended
-pub answer_ended' : (operation : Operation) (p q : Bool) (i j : ℕ) (xs ys : List ℕ) → IsRising 0 (2 ^ 32) xs → IsRising 0 (2 ^ 32) ys → length ys ≤ j
-    → p ≡ apply operation true false → q ≡ apply operation false true → answer operation (drop i xs) (drop j ys) ≡ cond p (drop i xs) [] ++ cond q (drop j ys) []
-answer_ended' operation p q i j xs ys r s h e f =
+pub answer_ended' : (n : ℕ) (operation : Operation) (p q : Bool) (i j : ℕ) (xs ys : List ℕ) → IsRising 0 n xs → IsRising 0 n ys → length ys ≤ j
+    → p ≡ apply operation true false → q ≡ apply operation false true → combined n operation (drop i xs) (drop j ys) ≡ cond p (drop i xs) [] ++ cond q (drop j ys) []
+answer_ended' n operation p q i j xs ys r s h e f =
     let none : drop j ys ≡ [] = drop_all j ys h in
-    ap (answer operation (drop i xs)) none ∙ answer_left operation p (drop i xs) (rising_drop 0 (2 ^ 32) i xs r) (sym e)
+    ap (combined n operation (drop i xs)) none ∙ answer_left n operation p (drop i xs) (rising_drop 0 n i xs r) (sym e)
     ∙ sym (append-nil (cond p (drop i xs) [])) ∙ ap (λ (l : List ℕ). cond p (drop i xs) [] ++ l) (sym (cond_none q (drop j ys) none))
 
 pub cond_few : (c : Bool) (xs : List ℕ) → length (cond c xs []) ≤ length xs

@@ -49,7 +49,7 @@ loop-i-preserved c =
       size = omega arith;
       left = left_more all c.args.out.now c.loop-i.out c.put-next.new.out c.args.at c.loop-i.next c.put-next.result (cond (apply operation (leb x y) (leb y x)) (min x y ∷ []) []) rest (omega arith)
           (left_as all c.args.out.now c.loop-i.out c.args.at c.loop-i.next (answer operation (drop i xs) (drop j ys)) (cond (apply operation (leb x y) (leb y x)) (min x y ∷ []) [] ++ rest)
-          (answer_step operation i j xs ys c.args.a.now.rising c.args.b.now.rising here there x y c.at-x.ensures c.at-y.ensures) c.loop-i.invariant.left)
+          (answer_step (2 ^ 32) operation i j xs ys c.args.a.now.rising c.args.b.now.rising here there x y c.at-x.ensures c.at-y.ensures) c.loop-i.invariant.left)
           (follow_as _ _ c.loop-i.out c.put-next.new.out c.loop-i.next c.put-next.result own c.put-next.ensures);
     }
 
@@ -81,9 +81,9 @@ returns c =
     let back = cond c.retains_right.result (drop j ys) [] in
     let ended : answer operation (drop i xs) (drop j ys) ≡ front ++ back = elim c.loop-i-test.branch [
       | then-loop-i-test+else-j-len w ↦
-          answer_ended' operation _ _ i j xs ys c.args.a.now.rising c.args.b.now.rising (omega (arith, w.if-j-len.false, w.len-in-loop-i.ensures)) c.retains_left.ensures c.retains_right.ensures
+          answer_ended' (2 ^ 32) operation _ _ i j xs ys c.args.a.now.rising c.args.b.now.rising (omega (arith, w.if-j-len.false, w.len-in-loop-i.ensures)) c.retains_left.ensures c.retains_right.ensures
       | else-loop-i-test w ↦
-          answer_ended operation _ _ i j xs ys c.args.a.now.rising c.args.b.now.rising (omega (arith, w.loop-i-test.false, c.len.ensures)) c.retains_left.ensures c.retains_right.ensures
+          answer_ended (2 ^ 32) operation _ _ i j xs ys c.args.a.now.rising c.args.b.now.rising (omega (arith, w.loop-i-test.false, c.len.ensures)) c.retains_left.ensures c.retains_right.ensures
     ] in
     let size = c.loop-i.invariant.size in
     left_last all c.args.out.now c.copy_if-end.new.out c.copy_if.new.out c.args.at c.copy_if-end.result c.copy_if.result back (omega arith)
