@@ -1,9 +1,12 @@
 -- The lemmas of this crate.
 mod ApartLaws
+mod CombineLaws
 mod EncodingLaws
 mod EntryLaws
 pub mod ForCallers
 mod FormLaws
+mod FrontLaws
+mod HeadLaws
 mod LocateLaws
 mod MoreLaws
 mod OrderLaws

@@ -1,5 +1,6 @@
 -- The definitions of this crate.
 pub mod Builders
+pub mod Combined
 pub mod Directory
 pub mod Errors
 pub mod Faults

@@ -1,4 +1,5 @@
 -- What serves inner contracts.
+pub mod Merging
 pub mod Parts
 pub mod WideColumnSteps
 pub mod Writing

@@ -1,6 +1,7 @@
 //! Sets and columns of 64-bit integers, over id sets and columns.
 #![tactic(auto)]
 
+mod combining;
 mod directory;
 mod encoding;
 mod form;
@@ -19,6 +20,7 @@ mod wide_set_builder;
 mod worked_sets;
 mod worked_wide_columns;
 
+pub use combining::{combine_count, combine_set_to, combine_to, is_disjoint, is_subset};
 pub use encoding::{encode, encode_to, encoded_len};
 pub use opening::Parts;
 pub use wide_column::WideColumn;

@@ -78,7 +78,7 @@ fn next_word(word: usize, more: usize, left: usize) -> usize
 
 /// Writes the ids with a high word and these low words.
 #[inline(always)]
-fn widen(high: u32, lows: &[u32], out: &mut [u64])
+pub(crate) fn widen(high: u32, lows: &[u32], out: &mut [u64])
     requires { length out.old ≡ length lows.now }
     ensures { out.new ≡ map (λ low. high * 2 ^ 32 + low) lows.now }
 {

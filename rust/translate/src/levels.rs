@@ -57,7 +57,7 @@ const fn entries(file: File, of: &'static str, functions: &'static [&'static str
 
 /// What the functions for Rust and for C call, if it reads or writes more than a few bytes. Blocks of 128 and of 32 values gain less than the choice
 /// costs, and so does one value of a column.
-pub const ENTRIES: [Entries; 32] = [
+pub const ENTRIES: [Entries; 33] = [
     entries(("bitpacking", "bitpacker8x.rt"), "BitPacker8x", &["pack_unmeasured", "unpack_counted", "width_counted"]),
     entries(("sets", "opening.rt"), "opening", &["test_encoding"]),
     entries(("queries", "combining.rt"), "combining", &["combine_to", "combine_count", "is_disjoint", "is_subset"]),
@@ -87,6 +87,11 @@ pub const ENTRIES: [Entries; 32] = [
     entries(("ranking", "ranking.rt"), "ranking", &["best_bounded"]),
     entries(("ranking", "bounding.rt"), "bounding", &["bound_blocks"]),
     entries(("ranking", "among.rt"), "among", &["best_among"]),
+    entries(
+        ("wide", "combining.rt"),
+        "combining",
+        &["combine_count", "combine_set_to", "combine_to", "is_disjoint", "is_subset"],
+    ),
     entries(("wide", "encoding.rt"), "encoding", &["encode", "encode_to", "encoded_len"]),
     entries(("wide", "opening.rt"), "opening", &["test_encoding"]),
     entries(("wide", "wide_set.rt"), "WideSet", &["contains", "rank", "select", "seek", "copy_to", "copy_range"]),

@@ -16,7 +16,7 @@ pub const FILES: [(&str, &[&str]); 8] = [
     ("sets", &["array.rt", "chunks.rt", "directory.rt", "few.rt", "searching.rt", "sought.rt", "window.rt"]),
     ("queries", &["combining_all.rt", "folding.rt", "in_place.rt"]),
     ("columns", &["code.rt", "column", "encoding/bodies.rt", "encoding/measuring.rt", "entries.rt", "opening"]),
-    ("wide", &["directory.rt", "encoding/order.rt", "encoding/words.rt", "spread.rt", "unpacking.rt"]),
+    ("wide", &["combining/merging.rt", "directory.rt", "encoding/order.rt", "encoding/words.rt", "spread.rt", "unpacking.rt"]),
 ];
 
 /// Methods that write what they are called of. One that is not here and does so does not compile.
