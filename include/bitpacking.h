@@ -865,6 +865,39 @@ ptrdiff_t bitpacking_wide_set_unpack(const bitpacking_wide_set *view, uint64_t *
  * buffer after them are unchanged. */
 ptrdiff_t bitpacking_wide_set_slice(const bitpacking_wide_set *view, size_t from, uint64_t *ids, size_t ids_len);
 
+/* Calls that combine two wide sets. The operation is BITPACKING_AND, _OR, _AND_NOT or _XOR. space is work space, which may hold anything.
+ *
+ * Writes the ids of the answer in increasing order to the front of ids, and returns their number. Without room for all it returns SHORT; room for
+ * the ids of both sets is always enough. Items after the ids may have changed, and any item if the call fails.
+ *
+ *     BAD_KIND      no operation has this number
+ *     SHORT         space_len is below ids_len
+ *     SHORT         ids_len is below the number of ids
+ */
+ptrdiff_t bitpacking_wide_set_combine_ids(uint32_t operation, const bitpacking_wide_set *first, const bitpacking_wide_set *second, uint64_t *ids,
+                                          size_t ids_len, uint32_t *space, size_t space_len);
+
+/* Returns how many ids the answer has.
+ *
+ *     BAD_KIND      no operation has this number
+ */
+ptrdiff_t bitpacking_wide_set_combine_count(uint32_t operation, const bitpacking_wide_set *first, const bitpacking_wide_set *second);
+
+/* Writes the wide set of the answer at the start of bytes, and returns its number of bytes: those that bitpacking_wide_set_pack writes of its ids.
+ * Bytes after those are unchanged. ids is work space too, for all ids of the answer.
+ *
+ *     BAD_KIND      no operation has this number
+ *     SHORT         space_len is below ids_len, or ids_len is below the number of ids
+ *     TOO_LONG      the set would have more than 268,435,456 ids
+ *     SHORT         bytes_len is below the bytes of the set: BITPACKING_WIDE_SET_ROOM of the number of ids are always enough
+ */
+ptrdiff_t bitpacking_wide_set_combine(uint32_t operation, const bitpacking_wide_set *first, const bitpacking_wide_set *second, uint64_t *ids,
+                                      size_t ids_len, uint32_t *space, size_t space_len, uint8_t *bytes, size_t bytes_len);
+
+/* Returns 1 if each id of the first wide set is in the second, and else 0; 1 if no id is in both, and else 0. */
+int32_t bitpacking_wide_set_is_subset(const bitpacking_wide_set *first, const bitpacking_wide_set *second);
+int32_t bitpacking_wide_set_is_disjoint(const bitpacking_wide_set *first, const bitpacking_wide_set *second);
+
 /* ---- Columns
  *
  * A column has integers, plain or sorted, for what is stored beside ids: times, prices, positions. A value is read in place, by its position.

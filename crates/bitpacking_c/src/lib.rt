@@ -38,6 +38,7 @@ mod set_view;
 mod set_wide;
 mod term_view;
 mod version;
+mod wide_set_combining;
 mod wide_set_packing;
 mod wide_set_view;
 

@@ -48,7 +48,7 @@ pub extern "C" fn bitpacking_set_is_disjoint(first: &SetView<'_>, second: &SetVi
 }
 
 /// The number for C of a yes or a no.
-fn number(is: bool) -> i32
+pub(crate) fn number(is: bool) -> i32
     ensures { SaysWhether (IsTrue is) result }
 {
     if is { 1 } else { 0 }

@@ -60,7 +60,7 @@ fn size(ids: &[u64], space: &mut [u32]) -> Result<usize, WideError>
 }
 
 /// The number for C. The position of an id out of order is written.
-fn answer(found: Result<usize, WideError>, position: &mut usize) -> isize
+pub(crate) fn answer(found: Result<usize, WideError>, position: &mut usize) -> isize
     requires { IfOk found (λ size. size < 2 ^ 63) }
     ensures number { result ≡ number_of_wide found }
     ensures position { position.new ≡ position_after_wide position.old found }

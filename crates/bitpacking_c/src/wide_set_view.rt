@@ -45,7 +45,7 @@ impl<'a> WideSetView<'a> {
 
     /// The wide set, which is the empty one if the view was not opened. Reads none of the bytes.
     #[inline(always)]
-    fn read(&self) -> WideSet<'a>
+    pub(crate) fn read(&self) -> WideSet<'a>
         ensures { ids result ≡ ids_in self.now.bytes.now }
     {
         if self.bytes.len() == 0 {
