@@ -1,15 +1,15 @@
 /* bitpacking.hpp: the sets and columns of bitpacking.h in C++17.
  *
- *     id_set, column              own the bytes of a set or a column
- *     id_set_view, column_view    borrow them, from these or from a mapped file
+ *     id_set, wide_set, column                   own the bytes of a set, of one of 64-bit ids, or of a column
+ *     id_set_view, wide_set_view, column_view    borrow them, from these or from a mapped file
  *
- * A function that reads one or the other takes a const bitpacking::readable_set & or readable_column &.
+ * A function that reads one or the other takes a const bitpacking::readable_set &, readable_wide_set & or readable_column &.
  *
  *     const bitpacking::id_set cats{7, 9, 10, 300}, dogs{9, 11, 300};
  *     for (std::uint32_t id : cats & dogs) ...
  *
- * Use a view or an iterator only as long as its bytes stay where they are, unchanged. An id_set or a column has its bytes until it is assigned, moved
- * from or destroyed.
+ * Use a view or an iterator only as long as its bytes stay where they are, unchanged. An id_set, wide_set or column has its bytes until it is assigned,
+ * moved from or destroyed.
  *
  * A call that fails throws bitpacking::error. If it has a parameter `number` and you pass a pointer, it throws no error. It sets *number to what the
  * function of bitpacking.h returned, which is below 0 for an error, and then returns an empty set or column. A comment lists errors as in bitpacking.h.
@@ -49,6 +49,7 @@ private:
 
 /* A position with the number at it, or nothing. */
 using found = std::optional<std::pair<std::size_t, std::uint32_t>>;
+using found_wide = std::optional<std::pair<std::size_t, std::uint64_t>>;
 
 /* What the classes below are made of. */
 namespace detail {
@@ -69,6 +70,7 @@ inline std::size_t checked(std::ptrdiff_t returned, std::ptrdiff_t *number = nul
 
 /* The functions of bitpacking.h that sets and columns have both, the bytes without numbers, and what an iterator reads. */
 struct of_sets {
+    using value = std::uint32_t;
     using view = bitpacking_set;
     using reader = bitpacking_set_cursor;
     static constexpr auto open = bitpacking_set_open;
@@ -90,36 +92,58 @@ struct of_sets {
     }
 };
 
-struct of_columns {
-    using view = bitpacking_column;
-    using reader = bitpacking_column;
+/* What an iterator reads from a position on, by a function that writes numbers. */
+template <class Value, class View, auto Slice> struct by_position {
+    using value = Value;
+    using view = View;
+    using reader = View;
+    static constexpr auto slice = Slice;
+
+    static reader start(const view &it) noexcept { return it; }
+    static std::ptrdiff_t fill(const reader &it, std::size_t position, value *part, std::size_t part_len) noexcept
+    {
+        return Slice(&it, position, part, part_len);
+    }
+};
+
+struct of_columns : by_position<std::uint32_t, bitpacking_column, bitpacking_column_range> {
     static constexpr auto open = bitpacking_column_open;
     static constexpr auto open_tested = bitpacking_column_open_tested;
     static constexpr auto len = bitpacking_column_len;
     static constexpr auto get = bitpacking_column_get;
-    static constexpr auto slice = bitpacking_column_range;
     static constexpr std::uint8_t none[] = {0x40};
-
-    static reader start(const view &column) noexcept { return column; }
-    static std::ptrdiff_t fill(const reader &column, std::size_t position, std::uint32_t *part, std::size_t part_len) noexcept
-    {
-        return bitpacking_column_range(&column, position, part, part_len);
-    }
 };
 
-/* An iterator. It unpacks up to 256 numbers at once. Its size is about 1 KB, or 2 KB if it is of a set. */
+struct of_wide_sets : by_position<std::uint64_t, bitpacking_wide_set, bitpacking_wide_set_slice> {
+    static constexpr auto open = bitpacking_wide_set_open;
+    static constexpr auto open_tested = bitpacking_wide_set_open_tested;
+    static constexpr auto len = bitpacking_wide_set_len;
+    static constexpr auto get = bitpacking_wide_set_get;
+    static constexpr std::uint8_t none[] = {9, 0, 0x60};
+};
+
+/* Returns ids in any order as increasing ids, each once. */
+template <class Id, class Iterator> std::vector<Id> increasing(Iterator first, Iterator last)
+{
+    std::vector<Id> ids(first, last);
+    std::sort(ids.begin(), ids.end());
+    ids.erase(std::unique(ids.begin(), ids.end()), ids.end());
+    return ids;
+}
+
+/* An iterator. It unpacks up to 256 numbers at once. Its size is about 1 KB, or 2 KB if it is of a set or a wide set. */
 template <class Of> class iterator {
 public:
     using iterator_category = std::forward_iterator_tag;
-    using value_type = std::uint32_t;
+    using value_type = typename Of::value;
     using difference_type = std::ptrdiff_t;
-    using pointer = const std::uint32_t *;
-    using reference = std::uint32_t;
+    using pointer = const value_type *;
+    using reference = value_type;
 
     iterator() = default;
     iterator(const typename Of::reader &reader, std::size_t position) : reader_(reader), position_(position) { unpack(); }
 
-    std::uint32_t operator*() const noexcept { return part_[index_]; }
+    value_type operator*() const noexcept { return part_[index_]; }
     iterator &operator++() noexcept
     {
         ++position_;
@@ -149,14 +173,14 @@ private:
 
     typename Of::reader reader_{};
     std::size_t position_ = 0, index_ = 0, len_ = 0;
-    std::uint32_t part_[256] = {};
+    value_type part_[256] = {};
 };
 
 /* The calls that read both sets and columns. */
 template <class Of> class readable {
 public:
     using of = Of;
-    using value_type = std::uint32_t;
+    using value_type = typename Of::value;
     using const_iterator = detail::iterator<Of>;
     using iterator = const_iterator;
 
@@ -172,22 +196,22 @@ public:
     bool empty() const noexcept { return size() == 0; }
 
     /* Returns the number at a position, from 0 on, or nothing if there is no such position. */
-    std::optional<std::uint32_t> get(std::size_t position) const noexcept
+    std::optional<value_type> get(std::size_t position) const noexcept
     {
-        std::uint32_t item = 0;
+        value_type item = 0;
         return Of::get(&view_, position, &item) == 1 ? std::optional(item) : std::nullopt;
     }
 
     /* Returns the numbers from position `from` on, at most `most` of them. */
-    std::vector<std::uint32_t> slice(std::size_t from, std::size_t most) const
+    std::vector<value_type> slice(std::size_t from, std::size_t most) const
     {
-        std::vector<std::uint32_t> items(from < size() ? std::min(most, size() - from) : 0);
+        std::vector<value_type> items(from < size() ? std::min(most, size() - from) : 0);
         checked(Of::slice(&view_, from, items.data(), items.size()));
         return items;
     }
 
     /* Returns all numbers. A set of 49 KB may have 268,435,456. */
-    std::vector<std::uint32_t> unpack() const { return slice(0, size()); }
+    std::vector<value_type> unpack() const { return slice(0, size()); }
 
     const_iterator begin() const noexcept { return {Of::start(view_), 0}; }
     const_iterator end() const noexcept { return {{}, size()}; }
@@ -263,6 +287,33 @@ private:
     {
         const bitpacking_set both[] = {view_, other.view_};
         return static_cast<std::size_t>(function(both, 2));
+    }
+};
+
+/* The calls that read wide sets, whose ids have 64 bits. Each does what the call of readable_set with its name does. */
+class readable_wide_set : public detail::readable<detail::of_wide_sets> {
+public:
+    bool contains(std::uint64_t id) const noexcept { return bitpacking_wide_set_contains(&view_, id) == 1; }
+    std::size_t rank(std::uint64_t target) const noexcept { return bitpacking_wide_set_rank(&view_, target); }
+    found_wide seek(std::uint64_t target) const noexcept
+    {
+        std::pair<std::size_t, std::uint64_t> it;
+        return bitpacking_wide_set_seek(&view_, target, &it.first, &it.second) == 1 ? found_wide(it) : std::nullopt;
+    }
+    const_iterator lower_bound(std::uint64_t target) const noexcept { return {view_, rank(target)}; }
+    std::optional<std::uint64_t> min() const noexcept { return get(0); }
+    std::optional<std::uint64_t> max() const noexcept { return empty() ? std::nullopt : get(size() - 1); }
+
+    bool is_subset(const readable_wide_set &other) const noexcept { return bitpacking_wide_set_is_subset(&view_, &other.view_) == 1; }
+    bool is_superset(const readable_wide_set &other) const noexcept { return other.is_subset(*this); }
+    bool is_disjoint(const readable_wide_set &other) const noexcept { return bitpacking_wide_set_is_disjoint(&view_, &other.view_) == 1; }
+    std::size_t intersect_len(const readable_wide_set &other) const noexcept { return count(BITPACKING_AND, other); }
+    std::size_t unite_len(const readable_wide_set &other) const noexcept { return count(BITPACKING_OR, other); }
+
+private:
+    std::size_t count(std::uint32_t operation, const readable_wide_set &other) const noexcept
+    {
+        return static_cast<std::size_t>(bitpacking_wide_set_combine_count(operation, &view_, &other.view_));
     }
 };
 
@@ -397,6 +448,7 @@ public:
 } // namespace detail
 
 using id_set_view = detail::borrowed<readable_set>;
+using wide_set_view = detail::borrowed<readable_wide_set>;
 using column_view = detail::borrowed<readable_column>;
 
 /* A set of ids. It does not change: a call that combines sets or appends ids makes another. */
@@ -409,10 +461,7 @@ public:
     id_set(std::initializer_list<std::uint32_t> ids) : id_set(ids.begin(), ids.end()) {}
     template <class Iterator, class = typename std::iterator_traits<Iterator>::iterator_category> id_set(Iterator first, Iterator last)
     {
-        std::vector<std::uint32_t> ids(first, last);
-        std::sort(ids.begin(), ids.end());
-        ids.erase(std::unique(ids.begin(), ids.end()), ids.end());
-        *this = pack(ids);
+        *this = pack(detail::increasing<std::uint32_t>(first, last));
     }
 
     /* Makes the set of increasing ids, which are a vector or an array.
@@ -510,6 +559,63 @@ private:
     {
         return combine(operation, std::initializer_list<std::reference_wrapper<const readable_set>>{one, other});
     }
+};
+
+/* A set of 64-bit ids. It does not change: a call that combines sets makes another. */
+class wide_set : public detail::owned<wide_set, readable_wide_set> {
+public:
+    using owned::owned;
+    wide_set() = default;
+
+    /* Make the set of ids in any order, each once. */
+    wide_set(std::initializer_list<std::uint64_t> ids) : wide_set(ids.begin(), ids.end()) {}
+    template <class Iterator, class = typename std::iterator_traits<Iterator>::iterator_category> wide_set(Iterator first, Iterator last)
+    {
+        *this = pack(detail::increasing<std::uint64_t>(first, last));
+    }
+
+    /* Makes the set of increasing ids, which are a vector or an array.
+     *
+     *     TOO_LONG      there are more than 268,435,456 ids
+     *     NOT_SORTED    an id is not above the one before it
+     */
+    template <class Ids> static wide_set pack(const Ids &ids, std::ptrdiff_t *number = nullptr)
+    {
+        std::vector<std::uint32_t> space(std::size(ids));
+        return written(BITPACKING_WIDE_SET_ROOM(std::size(ids)), number, [&](std::uint8_t *bytes, std::size_t bytes_len) {
+            return bitpacking_wide_set_pack(std::data(ids), std::size(ids), bytes, bytes_len, space.data(), space.size(), nullptr);
+        });
+    }
+
+    /* Makes the set that an operation on two sets gives: BITPACKING_AND, _OR, _AND_NOT or _XOR. Counts its ids first, to make room for them.
+     *
+     *     BAD_KIND      no operation has this number
+     *     TOO_LONG      the set would have more than 268,435,456 ids
+     */
+    static wide_set combine(std::uint32_t operation, const readable_wide_set &one, const readable_wide_set &other, std::ptrdiff_t *number = nullptr)
+    {
+        const std::ptrdiff_t len = bitpacking_wide_set_combine_count(operation, &one.view(), &other.view());
+        if (len < 0 || len > 268435456) {
+            detail::checked(len < 0 ? len : BITPACKING_TOO_LONG, number);
+            return {};
+        }
+        std::vector<std::uint64_t> ids(static_cast<std::size_t>(len));
+        std::vector<std::uint32_t> space(ids.size());
+        return written(BITPACKING_WIDE_SET_ROOM(ids.size()), number, [&](std::uint8_t *bytes, std::size_t bytes_len) {
+            return bitpacking_wide_set_combine(operation, &one.view(), &other.view(), ids.data(), ids.size(), space.data(), space.size(), bytes,
+                                               bytes_len);
+        });
+    }
+
+    /* Make the set of the ids that both have, that any has, that the first alone has, or that exactly one has. The error is TOO_LONG. */
+    friend wide_set operator&(const readable_wide_set &one, const readable_wide_set &other) { return combine(BITPACKING_AND, one, other); }
+    friend wide_set operator|(const readable_wide_set &one, const readable_wide_set &other) { return combine(BITPACKING_OR, one, other); }
+    friend wide_set operator-(const readable_wide_set &one, const readable_wide_set &other) { return combine(BITPACKING_AND_NOT, one, other); }
+    friend wide_set operator^(const readable_wide_set &one, const readable_wide_set &other) { return combine(BITPACKING_XOR, one, other); }
+    wide_set &operator&=(const readable_wide_set &other) { return *this = *this & other; }
+    wide_set &operator|=(const readable_wide_set &other) { return *this = *this | other; }
+    wide_set &operator-=(const readable_wide_set &other) { return *this = *this - other; }
+    wide_set &operator^=(const readable_wide_set &other) { return *this = *this ^ other; }
 };
 
 /* A column of numbers. It does not change: a call that appends values makes another. */

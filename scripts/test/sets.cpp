@@ -1,5 +1,5 @@
-/* Tests include/bitpacking.hpp beside std::set and std::vector, over random sets and columns: scripts/test/c.py runs it. Prints what is wrong, and
-   last that it made all calls. */
+/* Tests include/bitpacking.hpp beside std::set and std::vector, over random sets, wide sets and columns: scripts/test/c.py runs it. Prints what is
+   wrong, and last that it made all calls. */
 #include "bitpacking.hpp"
 
 #include <cstdio>
@@ -8,11 +8,20 @@
 #include <type_traits>
 
 using bitpacking::column, bitpacking::column_view, bitpacking::id_set, bitpacking::id_set_view, bitpacking::readable_set;
+using bitpacking::readable_wide_set, bitpacking::wide_set, bitpacking::wide_set_view;
 using ids = std::set<std::uint32_t>;
+using wide_ids = std::set<std::uint64_t>;
+
+// The classes of sets of such ids.
+template <class Id, class Set, class Wide> using either = std::conditional_t<std::is_same_v<Id, std::uint32_t>, Set, Wide>;
+template <class Id> using readable = either<Id, readable_set, readable_wide_set>;
+template <class Id> using owner = either<Id, id_set, wide_set>;
+template <class Id> using view = either<Id, id_set_view, wide_set_view>;
 
 // A view of a set that is gone after the line does not compile.
 static_assert(!std::is_constructible_v<id_set_view, id_set> && std::is_constructible_v<id_set_view, const id_set &>);
 static_assert(!std::is_constructible_v<column_view, column> && !std::is_convertible_v<id_set, column>);
+static_assert(!std::is_constructible_v<wide_set_view, wide_set> && !std::is_convertible_v<id_set, wide_set>);
 static_assert(std::is_nothrow_move_constructible_v<id_set> && std::is_nothrow_move_assignable_v<column>);
 
 static int failed;
@@ -58,19 +67,40 @@ static ids any()
     return found;
 }
 
-static void is(const readable_set &set, const ids &right)
+// Ids that are close together or far apart, of sets with many ids for each high word or few.
+static wide_ids any_wide()
 {
-    EXPECT(set.size() == right.size() && set.empty() == right.empty() && set.describe().ids == right.size());
+    const std::uint64_t step = 1 + std::uint64_t{below(2)} * below(UINT32_MAX), first = std::uint64_t{below(3)} << 40;
+    wide_ids found;
+    for (std::uint32_t id : any())
+        found.insert(first + step * id);
+    if (below(3) == 0)
+        found.insert(UINT64_MAX);
+    return found;
+}
+
+template <class Id> static void has(const readable<Id> &set, const std::set<Id> &right)
+{
+    EXPECT(set.size() == right.size() && set.empty() == right.empty());
     EXPECT(std::equal(set.begin(), set.end(), right.begin(), right.end()));
-    EXPECT(set.unpack() == std::vector<std::uint32_t>(right.begin(), right.end()));
-    EXPECT(set == id_set(right.begin(), right.end()));
+    EXPECT(set.unpack() == std::vector<Id>(right.begin(), right.end()));
+    EXPECT(set == owner<Id>(right.begin(), right.end()));
     EXPECT(right.empty() ? !set.min() && !set.max() : set.min() == *right.begin() && set.max() == *right.rbegin());
 }
 
-static void reads(const readable_set &set, const ids &right)
+static void is(const readable_set &set, const ids &right)
+{
+    has(set, right);
+    EXPECT(set.describe().ids == right.size());
+}
+
+static void is(const readable_wide_set &set, const wide_ids &right) { has(set, right); }
+
+template <class Id> static void reads(const readable<Id> &set, const std::set<Id> &right)
 {
     for (int turn = 0; turn < 20; turn++) {
-        const std::uint32_t target = turn % 2 != 0 && !right.empty() ? *right.lower_bound(below(*right.rbegin()) + 1) : below(UINT32_MAX);
+        const bool own = turn % 2 != 0 && !right.empty();
+        const Id target = own ? *std::next(right.begin(), below(static_cast<std::uint32_t>(right.size()))) : static_cast<Id>(random_bits());
         const auto at = right.lower_bound(target);
         const auto rank = static_cast<std::size_t>(std::distance(right.begin(), at));
         EXPECT(set.contains(target) == (right.count(target) == 1));
@@ -84,9 +114,9 @@ static void reads(const readable_set &set, const ids &right)
     }
 }
 
-static ids combined(std::uint32_t operation, const ids &one, const ids &other)
+template <class Id> static std::set<Id> combined(std::uint32_t operation, const std::set<Id> &one, const std::set<Id> &other)
 {
-    ids found;
+    std::set<Id> found;
     const auto end = std::inserter(found, found.end());
     if (operation == BITPACKING_AND)
         std::set_intersection(one.begin(), one.end(), other.begin(), other.end(), end);
@@ -99,13 +129,14 @@ static ids combined(std::uint32_t operation, const ids &one, const ids &other)
     return found;
 }
 
-static void two(const ids &first, const ids &second)
+template <class Id> static void two(const std::set<Id> &first, const std::set<Id> &second)
 {
-    const id_set one(first.begin(), first.end()), other(second.begin(), second.end());
-    const ids both = combined(BITPACKING_AND, first, second), all = combined(BITPACKING_OR, first, second);
-    const ids left = combined(BITPACKING_AND_NOT, first, second), odd = combined(BITPACKING_XOR, first, second);
-    const id_set sets[] = {one & other, one | id_set_view(other), id_set_view(one) - other, one ^ other};
-    id_set changed[] = {one, one, one, one};
+    using set = owner<Id>;
+    const set one(first.begin(), first.end()), other(second.begin(), second.end());
+    const auto both = combined(BITPACKING_AND, first, second), all = combined(BITPACKING_OR, first, second);
+    const auto left = combined(BITPACKING_AND_NOT, first, second), odd = combined(BITPACKING_XOR, first, second);
+    const set sets[] = {one & other, one | view<Id>(other), view<Id>(one) - other, one ^ other};
+    set changed[] = {one, one, one, one};
 
     changed[0] &= other;
     changed[1] |= other;
@@ -118,50 +149,65 @@ static void two(const ids &first, const ids &second)
     EXPECT(one.intersect_len(other) == both.size() && one.unite_len(other) == all.size());
     EXPECT(one.is_subset(other) == left.empty() && other.is_superset(one) == left.empty() && one.is_disjoint(other) == both.empty());
     EXPECT((one == other) == (first == second) && (one != other) == (first != second));
-    const std::vector<id_set> three{one, other, sets[3]};
-    is(id_set::combine(BITPACKING_XOR, three), {});
-    is(id_set::combine(BITPACKING_OR, std::vector<id_set_view>{one, other, three[2]}), all);
+}
+
+static void three(const ids &first, const ids &second)
+{
+    const id_set one(first.begin(), first.end()), other(second.begin(), second.end());
+    const std::vector<id_set> sets{one, other, one ^ other};
+    is(id_set::combine(BITPACKING_XOR, sets), {});
+    is(id_set::combine(BITPACKING_OR, std::vector<id_set_view>{one, other, sets[2]}), combined(BITPACKING_OR, first, second));
 }
 
 // A set outlives the one that it was copied or moved from.
-static void owns(const ids &right)
+template <class Id> static void owns(const std::set<Id> &right)
 {
-    std::vector<id_set> sets(3);
+    std::vector<owner<Id>> sets(3);
     {
-        id_set made(right.begin(), right.end());
+        owner<Id> made(right.begin(), right.end());
         sets[0] = made;
-        sets[1] = id_set(id_set_view(made));
+        sets[1] = owner<Id>(view<Id>(made));
         sets[2] = std::move(made);
         is(made, {});
         made = sets[0];
         is(made, right);
     }
     sets.reserve(sets.capacity() + 1);
-    for (const id_set &set : sets)
+    for (const auto &set : sets)
         is(set, right);
-    const id_set &same = sets[0];
+    const auto &same = sets[0];
     std::swap(sets[0], sets[1]);
     sets[0] = same;
     is(sets[0], right);
     is(sets[1] &= sets[1], right);
 }
 
-static void fails(const ids &right)
+template <class Id> static void fails(const std::set<Id> &right)
 {
-    const id_set set(right.begin(), right.end());
+    const owner<Id> set(right.begin(), right.end());
     const std::vector<std::uint8_t> bytes(set.bytes(), set.bytes() + set.bytes_len());
     const std::vector<std::uint8_t> cut(bytes.begin(), bytes.end() - 1);
+    const std::vector<Id> twice{7, 7};
     std::ptrdiff_t number = 1;
-    const auto opened = [&](const std::vector<std::uint8_t> &it) { return id_set_view::open(it.data(), it.size(), &number); };
+    const auto opened = [&](const std::vector<std::uint8_t> &it) { return view<Id>::open(it.data(), it.size(), &number); };
 
-    is(id_set::open(bytes), right);
+    is(owner<Id>::open(bytes), right);
     is(opened(bytes), right);
-    is(id_set_view::open_tested(bytes.data(), bytes.size()), right);
+    is(view<Id>::open_tested(bytes.data(), bytes.size()), right);
     EXPECT(number == 0);
     is(opened(cut), {});
-    EXPECT(number == BITPACKING_TRUNCATED && thrown([&] { id_set::open(cut); }) == number);
-    EXPECT(thrown([&] { id_set_view::open(cut.data(), cut.size()); }) == number);
-    is(id_set::open(cut, &number), {});
+    EXPECT(number == thrown([&] { owner<Id>::open(cut); }) && thrown([&] { view<Id>::open(cut.data(), cut.size()); }) == number);
+    EXPECT(number < 0 && (number == BITPACKING_TRUNCATED || std::is_same_v<Id, std::uint64_t>));
+    is(owner<Id>::open(cut, &number), {});
+    is(owner<Id>::pack(twice, &number), {});
+    EXPECT(number == BITPACKING_NOT_SORTED && thrown([&] { owner<Id>::pack(twice); }) == number);
+}
+
+static void appends(const ids &right)
+{
+    const id_set set(right.begin(), right.end());
+    std::ptrdiff_t number = 1;
+
     is(set.append(std::vector<std::uint32_t>{7, 7}, &number), {});
     EXPECT(number == BITPACKING_NOT_SORTED && thrown([&] { set.append(std::vector<std::uint32_t>{7, 7}); }) == number);
     is(set.append(std::vector<std::uint32_t>{}, &number), right);
@@ -232,6 +278,10 @@ static void by_hand()
     EXPECT(thrown([] { id_set::from_range(0, 268435457); }) == BITPACKING_TOO_LONG && id_set::from_range(5, 3).empty());
     EXPECT(thrown([] { id_set::combine(7, std::vector<id_set>(2)); }) == BITPACKING_BAD_KIND);
     EXPECT(id_set::combine(BITPACKING_OR, std::vector<id_set>()).empty());
+    EXPECT(wide_set().bytes_len() == 3 && wide_set() == wide_set::pack(std::vector<std::uint64_t>{}) && wide_set() == wide_set_view());
+    is(wide_set::open({9, 3, 0x63, 0, 1, 3, 1, 0, 0, 0, 1, 0, 0, 0, 0, 0, 0, 0}), {1, 4294967297, 8589934592});
+    is(wide_set::combine(7, wide_set{5}, wide_set{5}, &number), {});
+    EXPECT(number == BITPACKING_BAD_KIND && thrown([] { wide_set::combine(7, wide_set(), wide_set()); }) == number);
     // More ids than the room of two sets whose bytes are few.
     EXPECT((id_set::from_range(0, 268435456) ^ id_set{5}).size() == 268435455);
 }
@@ -262,19 +312,28 @@ static void first_page()
     EXPECT(*id_set{2, 3, 4, 7, 8}.lower_bound(4) == 4 && *id_set{2, 3, 4, 7, 8}.lower_bound(5) == 7);
 }
 
+template <class Id> static void all_calls(const std::set<Id> &one, const std::set<Id> &other)
+{
+    const owner<Id> set(one.begin(), one.end());
+    is(set, one);
+    reads(set, one);
+    two(one, other);
+    two(one, one);
+    owns(one);
+    fails(one);
+}
+
 int main()
 {
     by_hand();
     first_page();
     for (int turn = 0; turn < 60 && failed == 0; turn++) {
         const ids one = any(), other = any();
-        const id_set set(one.begin(), one.end());
-        is(set, one);
-        reads(set, one);
-        two(one, other);
-        two(one, one);
-        owns(one);
-        fails(one);
+        const wide_ids wide = any_wide(), another = turn % 2 != 0 ? any_wide() : combined(BITPACKING_OR, wide, wide_ids{7, UINT64_MAX});
+        all_calls(one, other);
+        all_calls(wide, another);
+        three(one, other);
+        appends(one);
         ranges();
         columns();
     }
