@@ -1,5 +1,5 @@
 //! Any bytes as a set, as a column and as a wide set: what opens is read by each call, with arguments from the bytes, and compared with a vector. The last two bytes
-//! also cut the others in two sets or columns, which are combined.
+//! also cut the others in two sets, columns or wide sets, which are combined.
 
 mod columns;
 mod sets;
@@ -57,6 +57,9 @@ pub unsafe extern "C" fn LLVMFuzzerTestOneInput(bytes: *const u8, len: usize) ->
         }
         if let (Ok(one), Ok(other)) = (Column::open(one), Column::open(other)) {
             columns::combine(&one, &other, &given);
+        }
+        if let (Ok(one), Ok(other)) = (WideSet::open(one), WideSet::open(other)) {
+            wide_sets::combine(&one, &other);
         }
     }
     0

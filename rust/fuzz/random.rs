@@ -308,6 +308,10 @@ fn round(numbers: &Numbers, counts: &mut [usize; 2]) {
     let wide = WideSetBuf::pack(&ids).unwrap();
     assert_eq!(wide.unpack(), ids);
     wide_sets::read(&wide, &[0; 12].map(|_| numbers.wide() >> numbers.of(&[0, 3, 12, 32])));
+    // Other ids, and some of these.
+    let others = wide_ids(numbers).into_iter().chain(ids.into_iter().filter(|_| numbers.below(3) == 0)).collect::<WideSetBuf>();
+    wide_sets::combine(&wide, &others);
+    wide_sets::combine(&others, &wide);
     damaged(numbers, wide.as_bytes(), counts);
     for kind in [Kind::Plain, Kind::Sorted] {
         let values = values(numbers, kind);

@@ -1,5 +1,7 @@
 //! Sets of 64-bit ids, and what a vector of ids says of them.
 
+use std::collections::BTreeSet;
+
 use bitpacking::set::IdSetBuf;
 use bitpacking::set::wide::{Error, WideSet, WideSetBuf, WideSetBuilder};
 
@@ -51,6 +53,22 @@ fn built(ids: &[u64], given: &[u64]) {
     assert_eq!(builder.extend(given).err(), fall.map(Error::NotSorted));
     let right = &all[..fall.unwrap_or(all.len())];
     assert!(builder.len() == right.len() && builder.pack() == WideSetBuf::pack(right).unwrap());
+}
+
+pub fn combine(one: &WideSet, other: &WideSet) {
+    if one.len().max(other.len()) > MOST {
+        let common = one.intersect_len(other);
+        assert_eq!((one.subtract_len(other), one.unite_len(other)), (one.len() - common, one.len() + other.len() - common));
+        return;
+    }
+    let [a, b]: [BTreeSet<u64>; 2] = [one, other].map(|it| it.iter().collect());
+    let wanted: [Vec<u64>; 4] = [&a & &b, &a | &b, &a - &b, &a ^ &b].map(|it| it.into_iter().collect());
+    let packed = [one & other, one | other, one - other, one ^ other];
+    let lens = [one.intersect_len(other), one.unite_len(other), one.subtract_len(other), one.symmetric_difference_len(other)];
+    for (k, wanted) in wanted.iter().enumerate() {
+        assert!(packed[k] == WideSetBuf::pack(wanted).unwrap() && lens[k] == wanted.len());
+    }
+    assert_eq!((one.is_subset(other), one.is_disjoint(other)), (a.is_subset(&b), a.is_disjoint(&b)));
 }
 
 /// A set with too many ids to unpack: each answer by another one.

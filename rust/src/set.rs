@@ -45,6 +45,7 @@ mod many;
 mod opening;
 mod operators;
 mod packing;
+mod pairs;
 mod query;
 mod query_ids;
 mod ranges;

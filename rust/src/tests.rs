@@ -25,6 +25,7 @@ mod set_ranges;
 mod set_reading;
 mod set_roaring;
 mod set_types;
+mod wide_combining;
 mod wide_sets;
 mod wide_types;
 

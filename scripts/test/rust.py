@@ -53,7 +53,16 @@ FIRST_COPY = {"BITPACKING_FIRST_COPY": "1"}
 # What both copies of the modules share, or the second one calls by a trait: none of it has vectors.
 SHARED = ("bitpacking::growing::", "bitpacking::slices::operation::", "bitpacking::ranking::term::")
 # The tests that run under valgrind, by parts of their names.
-FILLING = ["column_reading", "column_searching", "column_appending", "set_combining::two_sets", "set_iter", "do_not_fit", "wide_sets::both"]
+FILLING = [
+    "column_reading",
+    "column_searching",
+    "column_appending",
+    "set_combining::two_sets",
+    "set_iter",
+    "do_not_fit",
+    "wide_sets::both",
+    "wide_combining::calls",
+]
 # What no debugger reads.
 UNNAMED = {"CARGO_PROFILE_DEV_DEBUG": "0"}
 MANIFEST = '[package]\nname = "{}"\nversion = "0.0.0"\nedition = "2024"\n\n[dependencies]\n{}\n'

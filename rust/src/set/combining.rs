@@ -3,6 +3,7 @@
 use alloc::vec::Vec;
 
 use super::packing::packed;
+use super::pairs::operations;
 use super::{Error, IdSet, IdSetBuf};
 use crate::growing::{Growing, resize};
 use crate::queries;
@@ -91,275 +92,29 @@ pub(super) fn try_combine_set(operation: Operation, sets: &[&IdSet]) -> Result<I
     written(queries::combine_room(sets), most, |room, bytes| queries::combine_all_set_to(operation, sets, room, bytes))
 }
 
-/// The set that an operation on two sets gives. Panics if there is an error.
-#[track_caller]
-pub(super) fn combine_set(operation: Operation, one: &IdSet, other: &IdSet) -> IdSetBuf {
-    match try_combine_set(operation, &[one, other]) {
-        Ok(set) => set,
-        Err(error) => panic!("{error}"),
-    }
-}
-
 /// Two sets combined. A call that returns a set allocates as many bytes as both sets have, more if the answer has more, and 16 for each chunk, or for
 /// each id of a set that is not in chunks.
 impl IdSet {
-    /// Returns the set of the ids that both have, also as `&`.
-    ///
-    /// # Panics
-    ///
-    /// If an allocation fails. [`try_intersect`](IdSet::try_intersect) returns an error instead.
-    ///
-    /// ```
-    /// use bitpacking::set::IdSetBuf;
-    ///
-    /// let (cats, dogs) = (IdSetBuf::pack(&[1, 4, 6, 9])?, IdSetBuf::pack(&[4, 6, 7])?);
-    /// assert_eq!(cats.intersect(&dogs).unpack(), [4, 6]);
-    /// # Ok::<(), bitpacking::set::Error>(())
-    /// ```
-    #[must_use]
+    operations! { IdSetBuf of u32 in "set", "Allocates only" }
+
+    /// The set that an operation on two sets gives. Panics if there is an error.
     #[track_caller]
-    pub fn intersect(&self, other: &IdSet) -> IdSetBuf {
-        combine_set(Operation::And, self, other)
+    pub(super) fn combine(&self, operation: Operation, other: &IdSet) -> IdSetBuf {
+        match self.try_combine(operation, other) {
+            Ok(set) => set,
+            Err(error) => panic!("{error}"),
+        }
     }
 
-    /// Returns the set that [`intersect`](IdSet::intersect) and `&` return.
-    ///
-    /// # Errors
-    ///
-    /// `Memory`, if an allocation fails.
-    ///
-    /// ```
-    /// use bitpacking::set::IdSetBuf;
-    ///
-    /// let (cats, dogs) = (IdSetBuf::pack(&[1, 4, 6, 9])?, IdSetBuf::pack(&[4, 6, 7])?);
-    /// assert_eq!(cats.try_intersect(&dogs)?.unpack(), [4, 6]);
-    /// # Ok::<(), bitpacking::set::Error>(())
-    /// ```
-    pub fn try_intersect(&self, other: &IdSet) -> Result<IdSetBuf, Error> {
-        try_combine_set(Operation::And, &[self, other])
+    fn try_combine(&self, operation: Operation, other: &IdSet) -> Result<IdSetBuf, Error> {
+        try_combine_set(operation, &[self, other])
     }
 
-    /// Returns the set of the ids that at least one of the two has, also as `|`.
-    ///
-    /// # Panics
-    ///
-    /// If there are more than 268,435,456 ids, or an allocation fails. [`try_unite`](IdSet::try_unite) returns an error instead.
-    ///
-    /// ```
-    /// use bitpacking::set::IdSetBuf;
-    ///
-    /// let (cats, dogs) = (IdSetBuf::pack(&[1, 4, 6, 9])?, IdSetBuf::pack(&[4, 6, 7])?);
-    /// assert_eq!(cats.unite(&dogs).unpack(), [1, 4, 6, 7, 9]);
-    /// # Ok::<(), bitpacking::set::Error>(())
-    /// ```
-    #[must_use]
-    #[track_caller]
-    pub fn unite(&self, other: &IdSet) -> IdSetBuf {
-        combine_set(Operation::Or, self, other)
+    fn combine_into(&self, operation: Operation, other: &IdSet, ids: &mut Vec<u32>) {
+        combine_into(operation, &[self, other], ids);
     }
 
-    /// Returns the set that [`unite`](IdSet::unite) and `|` return.
-    ///
-    /// # Errors
-    ///
-    /// `TooLong`, if there are more than 268,435,456 ids; `Memory`, if an allocation fails.
-    ///
-    /// ```
-    /// use bitpacking::set::IdSetBuf;
-    ///
-    /// let (cats, dogs) = (IdSetBuf::pack(&[1, 4, 6, 9])?, IdSetBuf::pack(&[4, 6, 7])?);
-    /// assert_eq!(cats.try_unite(&dogs)?.unpack(), [1, 4, 6, 7, 9]);
-    /// # Ok::<(), bitpacking::set::Error>(())
-    /// ```
-    pub fn try_unite(&self, other: &IdSet) -> Result<IdSetBuf, Error> {
-        try_combine_set(Operation::Or, &[self, other])
-    }
-
-    /// Returns the set of the ids that this set has and the other lacks, also as `-`.
-    ///
-    /// # Panics
-    ///
-    /// If an allocation fails. [`try_subtract`](IdSet::try_subtract) returns an error instead.
-    ///
-    /// ```
-    /// use bitpacking::set::IdSetBuf;
-    ///
-    /// let (cats, dogs) = (IdSetBuf::pack(&[1, 4, 6, 9])?, IdSetBuf::pack(&[4, 6, 7])?);
-    /// assert_eq!(cats.subtract(&dogs).unpack(), [1, 9]);
-    /// # Ok::<(), bitpacking::set::Error>(())
-    /// ```
-    #[must_use]
-    #[track_caller]
-    pub fn subtract(&self, other: &IdSet) -> IdSetBuf {
-        combine_set(Operation::AndNot, self, other)
-    }
-
-    /// Returns the set that [`subtract`](IdSet::subtract) and `-` return.
-    ///
-    /// # Errors
-    ///
-    /// `Memory`, if an allocation fails.
-    ///
-    /// ```
-    /// use bitpacking::set::IdSetBuf;
-    ///
-    /// let (cats, dogs) = (IdSetBuf::pack(&[1, 4, 6, 9])?, IdSetBuf::pack(&[4, 6, 7])?);
-    /// assert_eq!(cats.try_subtract(&dogs)?.unpack(), [1, 9]);
-    /// # Ok::<(), bitpacking::set::Error>(())
-    /// ```
-    pub fn try_subtract(&self, other: &IdSet) -> Result<IdSetBuf, Error> {
-        try_combine_set(Operation::AndNot, &[self, other])
-    }
-
-    /// Returns the set of the ids that exactly one of the two has, also as `^`.
-    ///
-    /// # Panics
-    ///
-    /// If there are more than 268,435,456 ids, or an allocation fails. [`try_symmetric_difference`](IdSet::try_symmetric_difference) returns an error instead.
-    ///
-    /// ```
-    /// use bitpacking::set::IdSetBuf;
-    ///
-    /// let (cats, dogs) = (IdSetBuf::pack(&[1, 4, 6, 9])?, IdSetBuf::pack(&[4, 6, 7])?);
-    /// assert_eq!(cats.symmetric_difference(&dogs).unpack(), [1, 7, 9]);
-    /// # Ok::<(), bitpacking::set::Error>(())
-    /// ```
-    #[must_use]
-    #[track_caller]
-    pub fn symmetric_difference(&self, other: &IdSet) -> IdSetBuf {
-        combine_set(Operation::Xor, self, other)
-    }
-
-    /// Returns the set that [`symmetric_difference`](IdSet::symmetric_difference) and `^` return.
-    ///
-    /// # Errors
-    ///
-    /// `TooLong`, if there are more than 268,435,456 ids; `Memory`, if an allocation fails.
-    ///
-    /// ```
-    /// use bitpacking::set::IdSetBuf;
-    ///
-    /// let (cats, dogs) = (IdSetBuf::pack(&[1, 4, 6, 9])?, IdSetBuf::pack(&[4, 6, 7])?);
-    /// assert_eq!(cats.try_symmetric_difference(&dogs)?.unpack(), [1, 7, 9]);
-    /// # Ok::<(), bitpacking::set::Error>(())
-    /// ```
-    pub fn try_symmetric_difference(&self, other: &IdSet) -> Result<IdSetBuf, Error> {
-        try_combine_set(Operation::Xor, &[self, other])
-    }
-
-    /// Replaces the values of a vector by the ids that both have, in increasing order. Allocates only if the capacity of the vector is below the
-    /// length of the shorter set.
-    ///
-    /// ```
-    /// use bitpacking::set::IdSetBuf;
-    ///
-    /// let (cats, dogs) = (IdSetBuf::pack(&[1, 4, 6, 9])?, IdSetBuf::pack(&[4, 6, 7])?);
-    /// let mut ids = vec![8, 3];
-    /// cats.intersect_into(&dogs, &mut ids);
-    /// assert_eq!(ids, [4, 6]);
-    /// # Ok::<(), bitpacking::set::Error>(())
-    /// ```
-    pub fn intersect_into(&self, other: &IdSet, ids: &mut Vec<u32>) {
-        combine_into(Operation::And, &[self, other], ids);
-    }
-
-    /// Replaces the values of a vector by the ids that at least one of the two has, in increasing order. Allocates only if the capacity of the
-    /// vector is below the sum of the lengths.
-    ///
-    /// ```
-    /// use bitpacking::set::IdSetBuf;
-    ///
-    /// let (cats, dogs) = (IdSetBuf::pack(&[1, 4, 6, 9])?, IdSetBuf::pack(&[4, 6, 7])?);
-    /// let mut ids = vec![8, 3];
-    /// cats.unite_into(&dogs, &mut ids);
-    /// assert_eq!(ids, [1, 4, 6, 7, 9]);
-    /// # Ok::<(), bitpacking::set::Error>(())
-    /// ```
-    pub fn unite_into(&self, other: &IdSet, ids: &mut Vec<u32>) {
-        combine_into(Operation::Or, &[self, other], ids);
-    }
-
-    /// Replaces the values of a vector by the ids that this set has and the other lacks, in increasing order. Allocates only if the capacity of
-    /// the vector is below the length of this set.
-    ///
-    /// ```
-    /// use bitpacking::set::IdSetBuf;
-    ///
-    /// let (cats, dogs) = (IdSetBuf::pack(&[1, 4, 6, 9])?, IdSetBuf::pack(&[4, 6, 7])?);
-    /// let mut ids = vec![8, 3];
-    /// cats.subtract_into(&dogs, &mut ids);
-    /// assert_eq!(ids, [1, 9]);
-    /// # Ok::<(), bitpacking::set::Error>(())
-    /// ```
-    pub fn subtract_into(&self, other: &IdSet, ids: &mut Vec<u32>) {
-        combine_into(Operation::AndNot, &[self, other], ids);
-    }
-
-    /// Replaces the values of a vector by the ids that exactly one of the two has, in increasing order. Allocates only if the capacity of the
-    /// vector is below the sum of the lengths.
-    ///
-    /// ```
-    /// use bitpacking::set::IdSetBuf;
-    ///
-    /// let (cats, dogs) = (IdSetBuf::pack(&[1, 4, 6, 9])?, IdSetBuf::pack(&[4, 6, 7])?);
-    /// let mut ids = vec![8, 3];
-    /// cats.symmetric_difference_into(&dogs, &mut ids);
-    /// assert_eq!(ids, [1, 7, 9]);
-    /// # Ok::<(), bitpacking::set::Error>(())
-    /// ```
-    pub fn symmetric_difference_into(&self, other: &IdSet, ids: &mut Vec<u32>) {
-        combine_into(Operation::Xor, &[self, other], ids);
-    }
-
-    /// Returns how many ids both have. Allocates nothing.
-    ///
-    /// ```
-    /// use bitpacking::set::IdSetBuf;
-    ///
-    /// let (cats, dogs) = (IdSetBuf::pack(&[1, 4, 6, 9])?, IdSetBuf::pack(&[4, 6, 7])?);
-    /// assert_eq!(cats.intersect_len(&dogs), 2);
-    /// # Ok::<(), bitpacking::set::Error>(())
-    /// ```
-    pub fn intersect_len(&self, other: &IdSet) -> usize {
-        queries::combine_count(Operation::And, &self.code(), &other.code())
-    }
-
-    /// Returns how many ids at least one of the two has. Allocates nothing.
-    ///
-    /// ```
-    /// use bitpacking::set::IdSetBuf;
-    ///
-    /// let (cats, dogs) = (IdSetBuf::pack(&[1, 4, 6, 9])?, IdSetBuf::pack(&[4, 6, 7])?);
-    /// assert_eq!(cats.unite_len(&dogs), 5);
-    /// # Ok::<(), bitpacking::set::Error>(())
-    /// ```
-    pub fn unite_len(&self, other: &IdSet) -> usize {
-        queries::combine_count(Operation::Or, &self.code(), &other.code())
-    }
-
-    /// Returns how many ids this set has and the other lacks. Allocates nothing.
-    ///
-    /// ```
-    /// use bitpacking::set::IdSetBuf;
-    ///
-    /// let (cats, dogs) = (IdSetBuf::pack(&[1, 4, 6, 9])?, IdSetBuf::pack(&[4, 6, 7])?);
-    /// assert_eq!(cats.subtract_len(&dogs), 2);
-    /// # Ok::<(), bitpacking::set::Error>(())
-    /// ```
-    pub fn subtract_len(&self, other: &IdSet) -> usize {
-        queries::combine_count(Operation::AndNot, &self.code(), &other.code())
-    }
-
-    /// Returns how many ids exactly one of the two has. Allocates nothing.
-    ///
-    /// ```
-    /// use bitpacking::set::IdSetBuf;
-    ///
-    /// let (cats, dogs) = (IdSetBuf::pack(&[1, 4, 6, 9])?, IdSetBuf::pack(&[4, 6, 7])?);
-    /// assert_eq!(cats.symmetric_difference_len(&dogs), 3);
-    /// # Ok::<(), bitpacking::set::Error>(())
-    /// ```
-    pub fn symmetric_difference_len(&self, other: &IdSet) -> usize {
-        queries::combine_count(Operation::Xor, &self.code(), &other.code())
+    fn combine_len(&self, operation: Operation, other: &IdSet) -> usize {
+        queries::combine_count(operation, &self.code(), &other.code())
     }
 }

@@ -5,6 +5,11 @@ use core::cmp::Ordering;
 use super::{IdSet, IdSetBuf};
 use crate::queries;
 
+/// The share of ids that both of two sets have, by how many these are, and by the sum of the lengths. It is 1 if there are none.
+pub(super) fn share(both: usize, sum: usize) -> f64 {
+    if sum == 0 { 1.0 } else { both as f64 / (sum - both) as f64 }
+}
+
 impl IdSet {
     /// Returns whether the other set has each id of this one. Stops at the first chunk with an id that it lacks, and allocates nothing.
     ///
@@ -55,9 +60,7 @@ impl IdSet {
     /// # Ok::<(), bitpacking::set::Error>(())
     /// ```
     pub fn jaccard(&self, other: &IdSet) -> f64 {
-        let both = self.intersect_len(other);
-        let any = self.len() + other.len() - both;
-        if any == 0 { 1.0 } else { both as f64 / any as f64 }
+        share(self.intersect_len(other), self.len() + other.len())
     }
 }
 

@@ -3,21 +3,21 @@
 
 use core::ops::{BitAnd, BitAndAssign, BitOr, BitOrAssign, BitXor, BitXorAssign, Sub, SubAssign};
 
-use super::combining::combine_set;
+use super::wide::{WideSet, WideSetBuf};
 use super::{IdSet, IdSetBuf};
 use crate::slices::Operation;
 
 /// An operator of each pair of types.
 macro_rules! pairs {
-    ($operation:expr, $trait:ident $name:ident, $tried:literal; $([$($bytes:ident),*] $one:ty, $other:ty;)*) => {
+    ($buf:ident, $operation:expr, $trait:ident $name:ident, $tried:expr; $([$($bytes:ident),*] $one:ty, $other:ty;)*) => {
         $(
-            #[doc = concat!("Panics if [`IdSet::", $tried, "`] would return an error.")]
+            #[doc = concat!("Panics if [`", $tried, "`] would return an error.")]
             impl<$($bytes),*> $trait<$other> for $one {
-                type Output = IdSetBuf;
+                type Output = $buf;
 
                 #[track_caller]
-                fn $name(self, other: $other) -> IdSetBuf {
-                    combine_set($operation, &self, &other)
+                fn $name(self, other: $other) -> $buf {
+                    self.combine($operation, &other)
                 }
             }
         )*
@@ -26,13 +26,13 @@ macro_rules! pairs {
 
 /// An operator that changes a set, by each type.
 macro_rules! assigned {
-    ($operation:expr, $trait:ident $name:ident, $tried:literal; $([$($bytes:ident)?] $other:ty;)*) => {
+    ($buf:ident, $operation:expr, $trait:ident $name:ident, $tried:expr; $([$($bytes:ident)?] $other:ty;)*) => {
         $(
-            #[doc = concat!("Panics if [`IdSet::", $tried, "`] would return an error. The set is then unchanged.")]
-            impl<$($bytes)?> $trait<$other> for IdSetBuf {
+            #[doc = concat!("Panics if [`", $tried, "`] would return an error. The set is then unchanged.")]
+            impl<$($bytes)?> $trait<$other> for $buf {
                 #[track_caller]
                 fn $name(&mut self, other: $other) {
-                    *self = combine_set($operation, self, &other);
+                    *self = self.combine($operation, &other);
                 }
             }
         )*
@@ -40,17 +40,25 @@ macro_rules! assigned {
 }
 
 macro_rules! operator {
-    ($operation:expr, $trait:ident $name:ident, $assign_trait:ident $assign_name:ident, $tried:literal) => {
-        pairs!($operation, $trait $name, $tried;
-            [] &IdSet, &IdSet; [C] &IdSet, &IdSetBuf<C>; [C] &IdSet, IdSetBuf<C>;
-            [B] &IdSetBuf<B>, &IdSet; [B, C] &IdSetBuf<B>, &IdSetBuf<C>; [B, C] &IdSetBuf<B>, IdSetBuf<C>;
-            [B] IdSetBuf<B>, &IdSet; [B, C] IdSetBuf<B>, &IdSetBuf<C>; [B, C] IdSetBuf<B>, IdSetBuf<C>;
+    ($set:ident $buf:ident, $operation:expr, $trait:ident $name:ident, $assign_trait:ident $assign_name:ident, $tried:literal) => {
+        pairs!($buf, $operation, $trait $name, concat!(stringify!($set), "::", $tried);
+            [] &$set, &$set; [C] &$set, &$buf<C>; [C] &$set, $buf<C>;
+            [B] &$buf<B>, &$set; [B, C] &$buf<B>, &$buf<C>; [B, C] &$buf<B>, $buf<C>;
+            [B] $buf<B>, &$set; [B, C] $buf<B>, &$buf<C>; [B, C] $buf<B>, $buf<C>;
         );
-        assigned!($operation, $assign_trait $assign_name, $tried; [] &IdSet; [C] &IdSetBuf<C>; [C] IdSetBuf<C>;);
+        assigned!($buf, $operation, $assign_trait $assign_name, concat!(stringify!($set), "::", $tried);
+            [] &$set; [C] &$buf<C>; [C] $buf<C>;);
     };
 }
 
-operator!(Operation::And, BitAnd bitand, BitAndAssign bitand_assign, "try_intersect");
-operator!(Operation::Or, BitOr bitor, BitOrAssign bitor_assign, "try_unite");
-operator!(Operation::AndNot, Sub sub, SubAssign sub_assign, "try_subtract");
-operator!(Operation::Xor, BitXor bitxor, BitXorAssign bitxor_assign, "try_symmetric_difference");
+macro_rules! operators {
+    ($set:ident $buf:ident) => {
+        operator!($set $buf, Operation::And, BitAnd bitand, BitAndAssign bitand_assign, "try_intersect");
+        operator!($set $buf, Operation::Or, BitOr bitor, BitOrAssign bitor_assign, "try_unite");
+        operator!($set $buf, Operation::AndNot, Sub sub, SubAssign sub_assign, "try_subtract");
+        operator!($set $buf, Operation::Xor, BitXor bitxor, BitXorAssign bitxor_assign, "try_symmetric_difference");
+    };
+}
+
+operators!(IdSet IdSetBuf);
+operators!(WideSet WideSetBuf);

@@ -5,6 +5,8 @@
 //!
 //! let keys = WideSetBuf::pack(&[7, 1 << 40, u64::MAX])?;
 //! assert!(keys.contains(1 << 40));
+//! let old = WideSetBuf::pack(&[7, 9])?;
+//! assert_eq!((&keys - &old).unpack(), [1 << 40, u64::MAX]);
 //!
 //! let bytes: &[u8] = keys.as_bytes(); // what is stored
 //! let stored = WideSet::open(bytes)?;
@@ -13,8 +15,8 @@
 //! ```
 //!
 //! [`WideSet`] and [`WideSetBuf`] are as [`IdSet`](super::IdSet) and [`IdSetBuf`] are: a `WideSet` is always behind a reference, and a `WideSetBuf`
-//! owns or borrows its bytes. No call combines two wide sets. [`WideSet::part`] has the ids that share their high 32 bits as an id set, which all
-//! calls of [`set`](super) combine.
+//! owns or borrows its bytes. Two wide sets are combined as two id sets are: `&`, `|`, `-` and `^` return another wide set. [`WideSet::part`] has the
+//! ids that share their high 32 bits as an id set, which has all calls of [`set`](super).
 //!
 //! # Sizes
 //!
@@ -23,6 +25,7 @@
 //! are a sorted column. 49 KB may hold 268,435,456 ids, so look at [`len`](WideSet::len) before you unpack a set of others.
 
 mod builder;
+mod combining;
 mod iter;
 mod packing;
 mod reading;

@@ -258,6 +258,39 @@ fn wide_sets() {
     }
 }
 
+/// Each may have as many ids as the sets say: room for these, and as much work space.
+#[test]
+fn combining_wide_sets() {
+    let sets = [(0, 1), (9, 7), (2000, 0x000F_1234_5678_9ABC), (3000, 14)]
+        .map(|(len, step)| (0..len).map(|k: u64| k * step).collect::<WideSetBuf>());
+    for one in &sets {
+        for other in &sets {
+            let (one, other): (&WideSet, &WideSet) = (one, other);
+            let (less, all) = (one.len().min(other.len()), one.len() + other.len());
+            let set_of = |room: usize, set: &WideSet| 12 * room.max(4) + octets(set.as_bytes());
+            let [and, or, not, xor] = [one & other, one | other, one - other, one ^ other];
+            let mut ids = Vec::with_capacity(all);
+            nothing! {
+                (one.intersect_len(other), one.unite_len(other), one.subtract_len(other), one.symmetric_difference_len(other));
+                (one.is_subset(other), one.is_superset(other), one.is_disjoint(other), one.jaccard(other));
+            }
+            each! {
+                3, set_of(less, &and) => one.intersect(other);
+                3, set_of(all, &or) => one | other;
+                3, set_of(one.len(), &not) => one.try_subtract(other);
+                3, set_of(all, &xor) => one ^ other;
+                1, 4 * less => one.intersect_into(other, &mut ids);
+                1, 4 * all => one.unite_into(other, &mut ids);
+                1, 4 * one.len() => one.subtract_into(other, &mut ids);
+                2, 12 * all => one.symmetric_difference_into(other, &mut Vec::new());
+            }
+        }
+    }
+    // They have fewer bytes than ids, and the answer has none.
+    let [even, odd] = [0, 1].map(|first| (first..20_000).step_by(2).collect::<WideSetBuf>());
+    each! { 3, 12 * 4 + 8 => even.intersect(&odd); }
+}
+
 /// Of 12 chunks of 32,768 ids, 11 are copied: the ids of the last one and those after it take 4 bytes each.
 #[test]
 fn appending_to_a_set() {

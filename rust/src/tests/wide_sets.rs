@@ -13,15 +13,15 @@ use crate::column;
 use crate::set::IdSetBuf;
 use crate::set::wide::{Error, Iter, WideSet, WideSetBuf, WideSetBuilder};
 
-type Model = BTreeSet<u64>;
+pub(super) type Model = BTreeSet<u64>;
 
-const CANARY: u64 = 0xA5A5_A5A5_A5A5_A5A5;
+pub(super) const CANARY: u64 = 0xA5A5_A5A5_A5A5_A5A5;
 
 /// How many shapes [`shape`] has.
-const SHAPES: u32 = 14;
+pub(super) const SHAPES: u32 = 14;
 
 /// The ids of a shape, sometimes with one of the ends.
-fn shape(numbers: &mut Numbers, shape: u32) -> Model {
+pub(super) fn shape(numbers: &mut Numbers, shape: u32) -> Model {
     let count = 1 + u64::from(numbers.below(700));
     let mut ids: Model = match shape {
         0 => return Model::new(),
@@ -52,7 +52,7 @@ fn shape(numbers: &mut Numbers, shape: u32) -> Model {
     ids
 }
 
-fn listed(model: &Model) -> Vec<u64> {
+pub(super) fn listed(model: &Model) -> Vec<u64> {
     model.iter().copied().collect()
 }
 

@@ -25,13 +25,19 @@ impl WideSetBuf {
     /// # Ok::<(), Error>(())
     /// ```
     pub fn pack(ids: &[u64]) -> Result<WideSetBuf, Error> {
-        let (mut space, mut bytes) = (Vec::new(), Vec::new());
+        let mut space = Vec::new();
         space.try_resize(ids.len(), 0).map_err(|_| Error::Memory)?;
-        // REQUIRES: the work space has as many numbers as there are ids.
-        wide::encode(ids, &mut space, &mut bytes)?;
-        // SAFETY: the call packed these bytes.
-        Ok(unsafe { WideSetBuf::open_unchecked(bytes) })
+        packed(ids, &mut space)
     }
+}
+
+/// The set of increasing ids, with work space of as many numbers or more.
+pub(super) fn packed(ids: &[u64], space: &mut [u32]) -> Result<WideSetBuf, Error> {
+    let mut bytes = Vec::new();
+    // REQUIRES: the work space has as many numbers as there are ids.
+    wide::encode(ids, space, &mut bytes)?;
+    // SAFETY: the call packed these bytes.
+    Ok(unsafe { WideSetBuf::open_unchecked(bytes) })
 }
 
 /// Collects ids in any order, and each once if they repeat. Allocates 8 bytes for each id that comes, and what [`pack`](WideSetBuf::pack) does.
