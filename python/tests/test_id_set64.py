@@ -2,7 +2,6 @@
 
 import array
 import copy
-import operator
 import pickle
 
 import fimulowen
@@ -172,27 +171,6 @@ def test_beside_ids_of_32_bits():
             call(wide.data)
     with pytest.raises(Error, match="BadVersion, byte 0"):
         IdSet64.open(small.data)
-
-
-OPERATORS = [operator.and_, operator.or_, operator.sub, operator.xor, operator.lt, operator.le, operator.gt, operator.ge]
-
-
-@pytest.mark.parametrize("call", OPERATORS)
-def test_no_operations(call):
-    """There are none yet: the error is that of Python."""
-    wide = IdSet64([1, 5])
-    for other in (wide, IdSet([1, 5]), [5], {5}, 5, range(9)):
-        for one, two in ((wide, other), (other, wide)):
-            with pytest.raises(TypeError, match="unsupported operand|not supported between"):
-                call(one, two)
-    for other in (np.array([5], "u8"), Query([5])):
-        with pytest.raises(TypeError):
-            call(wide, other)
-        with pytest.raises(TypeError):
-            call(other, wide)
-    for call in (fimulowen.unite, IdSet([5]).isdisjoint, Query, IdSet([5]).union):
-        with pytest.raises(TypeError, match="IdSet64 has no set operations"):
-            call(wide)
 
 
 @pytest.mark.parametrize("dtype", ["u8", "i8", ">u8", "u4", "f8", "O"])

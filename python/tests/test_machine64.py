@@ -3,9 +3,12 @@ variable FIMULOWEN_PROGRAMS as many others."""
 
 import bisect
 import copy
+import functools
+import operator
 import os
 import pickle
 
+import fimulowen
 import numpy as np
 import pytest
 from fimulowen import Error, IdSet, IdSet64
@@ -17,6 +20,19 @@ from wide_ids import EDGES, KINDS, MOST, drawn, form_of
 PROGRAMS = os.environ.get("FIMULOWEN_PROGRAMS")
 PARTS = 20
 COUNTS = [0, 1, 2, 5, 8, 15, 16, 30, 30, 60, 129]
+# Of each operation: the operator, the call of numpy for two arrays, the method, and the functions to an array and to a count.
+OPERATIONS = [
+    (operator.and_, np.intersect1d, IdSet64.intersection, fimulowen.intersect, fimulowen.intersect_len),
+    (operator.or_, np.union1d, IdSet64.union, fimulowen.unite, fimulowen.unite_len),
+    (operator.sub, np.setdiff1d, IdSet64.difference, fimulowen.subtract, fimulowen.subtract_len),
+    (
+        operator.xor,
+        np.setxor1d,
+        IdSet64.symmetric_difference,
+        fimulowen.symmetric_difference,
+        fimulowen.symmetric_difference_len,
+    ),
+]
 
 
 class Program:
@@ -50,6 +66,21 @@ class Program:
         if choice == 2:
             return EDGES[self.random.integers(len(EDGES))] + int(self.random.integers(-2, 3))
         return int(self.random.integers(-(2**62), 2**62)) << int(self.random.integers(0, 9))
+
+    def others(self):
+        """Ids to combine the set with: other ones, some of its own, or both."""
+        ids = drawn(self.random, KINDS[self.random.integers(len(KINDS))], COUNTS[self.random.integers(len(COUNTS))])
+        own = self.ids[self.random.random(len(self.ids)) < self.random.choice([0.1, 0.5, 0.95, 1])]
+        return [ids, own, np.union1d(ids, own)][self.random.integers(3)]
+
+    def operand(self, ids):
+        """A set, or another form that a caller has, in any order."""
+        return IdSet64(ids) if self.random.integers(2) else self.written(self.random.permutation(ids).tolist())
+
+    def becomes(self, packed, ids):
+        """The set that a call returned takes the place of this one."""
+        assert type(packed) is IdSet64 and packed.unpack().tolist() == ids.tolist() and packed.tobytes() == IdSet64(ids).tobytes()
+        self.packed, self.ids, self.known = packed, ids, ids.tolist()
 
     def found(self, target):
         """The position of the first id from a number on, and the id, or 2^64 - 1 if there is none."""
@@ -128,6 +159,32 @@ class Program:
         self.packed, self.known = one, sorted(other)
         self.ids = np.array(self.known, "u8")
 
+    def combines(self):
+        call, find, _, to_array, to_count = OPERATIONS[self.random.integers(4)]
+        ids = self.others()
+        pair = [(self.packed, self.ids), (self.operand(ids), ids)][:: self.random.choice([1, -1])]
+        wanted = find(pair[0][1], pair[1][1])
+        packed = [it if type(it) is IdSet64 else IdSet64(known) for it, known in pair]
+        found = to_array(*packed)
+        assert found.dtype == np.uint64 and found.tolist() == wanted.tolist() and to_count(*packed) == len(wanted)
+        self.becomes(call(pair[0][0], pair[1][0]), wanted)
+
+    def combines_many(self):
+        _, find, method, to_array, to_count = OPERATIONS[self.random.integers(4)]
+        others = [self.others() for _ in range(self.random.integers(0, 4))]
+        wanted = functools.reduce(find, [self.ids, *others])
+        assert to_array(self.packed, *map(self.operand, others)).tolist() == wanted.tolist()
+        assert to_count(self.packed, *map(self.operand, others)) == len(wanted)
+        self.becomes(method(self.packed, *map(self.operand, others)), wanted)
+
+    def compares(self):
+        ids, x = self.others(), set(self.known)
+        y, a, b = set(ids.tolist()), self.packed, IdSet64(ids)
+        assert (a == b, a <= b, a < b, a >= b, a > b) == (x == y, x <= y, x < y, x >= y, x > y) and (hash(a) == hash(b)) == (x == y)
+        other = [self.operand(ids) for _ in range(4)]
+        assert a.issubset(other[0]) == (x <= y) and a.issuperset(other[1]) == (x >= y) and a.isdisjoint(other[2]) == x.isdisjoint(y)
+        assert a.jaccard(other[3]) == (len(x & y) / len(x | y) if x | y else 1)
+
     def is_damaged(self):
         bad = damaged(self.random, self.packed.tobytes())
         try:
@@ -145,7 +202,8 @@ class Program:
             assert IdSet(self.packed).unpack().tolist() == self.known == IdSet64(IdSet(self.packed)).unpack().tolist()
 
 
-CALLS = [it for name, it in vars(Program).items() if name not in ("__init__", "written", "target", "found") and callable(it)]
+NO_CALLS = ("__init__", "written", "target", "others", "operand", "becomes", "found")
+CALLS = [it for name, it in vars(Program).items() if name not in NO_CALLS and callable(it)]
 
 
 @pytest.mark.parametrize("part", range(PARTS))

@@ -2,7 +2,11 @@
 
 import copy
 import gc
+import os
+import pathlib
 import pickle
+import resource
+import subprocess
 import sys
 import tracemalloc
 
@@ -10,6 +14,8 @@ import fimulowen
 import numpy as np
 import pytest
 from fimulowen import Error, IdSet, IdSet64, Query, chain
+
+from wide_ids import full
 
 
 def resident():
@@ -33,9 +39,7 @@ def sets_round(ids, text, bounds):
     packed.seek(500), packed.seek(1 << 40), packed.rank(70), packed.range(50, 9000), packed.min(), packed.max(), len(packed)
     packed.gather([3, -1]), packed.contains(ids), packed.contains([5, -1]), packed.append(ids + ids[-1] + 1), "a" in packed
     packed & other, packed | alone, packed - other, packed ^ alone, packed & [5, 7], ids - other, {5} | packed, packed & IdSet()
-    for call in (fimulowen.intersect, fimulowen.unite, fimulowen.subtract, fimulowen.symmetric_difference):
-        call(packed, other), call(packed, alone), call(alone, other, packed), call(packed)
-    for call in (fimulowen.intersect_len, fimulowen.unite_len, fimulowen.subtract_len, fimulowen.symmetric_difference_len):
+    for call in COMBINING:
         call(packed, other), call(packed, alone), call(alone, other, packed), call(packed)
     packed == other, packed == IdSet(ids), packed <= other, other < packed, packed >= other, packed > other, packed != other
     packed.isdisjoint(alone), packed.issubset(ids), packed.issuperset([5]), hash(packed), repr(packed), np.asarray(packed)
@@ -70,6 +74,12 @@ def wide_round(ids, text, bounds):
         IdSet64(packed), IdSet64(wide.tolist()), IdSet64(IdSet(ids)), IdSet64.open(bytearray(packed.data)), IdSet64(range(far, far + 9))
         IdSet64.open_many(packed.tobytes(), [0, packed.nbytes]), pickle.loads(pickle.dumps(packed, 5)), copy.copy(packed)
         pickle.loads(pickle.dumps(packed, 2)), packed.data.tobytes(), packed.__arrow_c_array__(), packed.__arrow_c_schema__()
+        other, alone = IdSet64(wide[::3]), IdSet64(wide[1::2] + np.uint64(1))
+        packed & other, packed | alone, packed - other, packed ^ alone, packed & [5, 7], wide - other, {5} | packed, packed & IdSet64()
+        packed.union(other, alone), packed.intersection(), packed.jaccard(other), packed.symmetric_difference(alone, other, [5])
+        for call in COMBINING:
+            call(packed, other), call(packed, alone), call(alone, other, packed), call(packed)
+        packed <= other, other < packed, packed >= other, packed > other, packed.isdisjoint(alone), packed.issubset(wide), other <= packed
         bad = packed.tobytes()
         for call in [
             lambda: IdSet64.open(bad[:-1]),
@@ -87,9 +97,18 @@ def wide_round(ids, text, bounds):
             lambda: packed.seek("a"),
             lambda: packed.rank(["a"]),
             lambda: packed.contains([0.5]),
-            lambda: packed & packed,
+            lambda: packed & IdSet(ids),
             lambda: IdSet(ids) | packed,
-            lambda: packed < packed,
+            lambda: packed < IdSet(ids),
+            lambda: packed | [1 << 64],
+            lambda: packed.isdisjoint(IdSet(ids)),
+            lambda: fimulowen.unite(packed, IdSet(ids)),
+            lambda: packed._is_disjoint(5),
+            lambda: fimulowen._core.wide_combine(9, packed, packed),
+            lambda: fimulowen._core.wide_join(IdSet, 0, packed, packed),
+            lambda: fimulowen._core.wide_join(IdSet64, 9, packed, packed),
+            lambda: fimulowen._core.wide_count(9, packed, packed),
+            lambda: full(0) | full(1),
             lambda: IdSet64([1 << 63]).unpack(out),
             lambda: packed.unpack(np.empty(3, "u8")),
             lambda: packed.unpack(np.empty(len(wide), "f8")),
@@ -169,6 +188,8 @@ def refused_round(ids, text, bounds):
         refused(call)
 
 
+COMBINING = [fimulowen.intersect, fimulowen.unite, fimulowen.subtract, fimulowen.symmetric_difference]
+COMBINING += [fimulowen.intersect_len, fimulowen.unite_len, fimulowen.subtract_len, fimulowen.symmetric_difference_len]
 BITMAP = bytes.fromhex("3B30000001000009000100000009 00")
 TABLE = np.repeat(np.arange(3), 256).reshape(3, 256)
 ROUNDS = [sets_round, wide_round, refused_round]
@@ -189,6 +210,29 @@ def test_constant():
 
     # Caches of numpy grow for a while. What a call leaks grows in each round.
     assert any(blocks < 50 and size < 60 * 1024 for blocks, size in (grown() for _ in range(16)))
+
+
+def no_memory():
+    """Wide sets of 2^28 ids are combined in a process that gets 2.5 GB more: room for as many ids, but not for work space too."""
+    one, other, limit = full(0), full(1), resource.RLIMIT_AS
+    with open("/proc/self/statm", encoding="ascii") as file:
+        resource.setrlimit(limit, (4096 * int(file.read().split()[0]) + (5 << 29), resource.getrlimit(limit)[1]))
+    # A short answer has room, after its ids were counted.
+    assert not one - full(0) and not one ^ full(0) and len(fimulowen.subtract(one, full(0))) == 0
+    blocks = sys.getallocatedblocks()
+    for _ in range(5):
+        for call, it in ((IdSet64.union, one), (IdSet64.difference, other), (fimulowen.intersect, full(0)), (fimulowen.unite, other)):
+            with pytest.raises(MemoryError):
+                call(one, it)
+    gc.collect()
+    assert sys.getallocatedblocks() - blocks < 50 and len(np.empty(1 << 28, "u8")) == 1 << 28
+
+
+def test_no_memory():
+    """MemoryError if the answer has no room, and nothing is left over."""
+    options = f"{os.environ.get('ASAN_OPTIONS', '')}:allocator_may_return_null=1"
+    command = [sys.executable, "-c", "import test_memory; test_memory.no_memory()"]
+    subprocess.run(command, cwd=pathlib.Path(__file__).parent, env=dict(os.environ, ASAN_OPTIONS=options), check=True)
 
 
 def test_slices():

@@ -1,6 +1,7 @@
 """Calls let other threads run, and Ctrl-C ends them."""
 
 import gc
+import operator
 import signal
 import sys
 import threading
@@ -55,6 +56,7 @@ class Long:
         self.wide_ids = self.ids.astype("u8") << np.uint64(20)
         self.c, self.wide_copy = IdSet64(self.wide_ids), IdSet64(self.wide_ids)
         self.wide_data = self.c.tobytes()
+        self.d, self.between = IdSet64(self.others.astype("u8") << np.uint64(20)), IdSet64(self.wide_ids + np.uint64(1))
 
 
 @pytest.fixture(scope="module")
@@ -102,6 +104,11 @@ UNLOCKED = {
     "contains of 64": lambda it: it.c._contains(it.wide_ids),
     "rank of 64": lambda it: it.c._rank(it.wide_ids),
     "== of 64": lambda it: it.c == it.wide_copy,
+    "<= of 64": lambda it: it.c <= it.wide_copy,
+    "isdisjoint of 64": lambda it: it.c._is_disjoint(it.between),
+    "wide_combine": lambda it: _core.wide_combine(XOR, it.c, it.d),
+    "wide_join": lambda it: _core.wide_join(IdSet64, INTERSECT, it.c, it.d),
+    "wide_count": lambda it: _core.wide_count(INTERSECT, it.c, it.d),
     "chain.pack": lambda it: _core.chain_pack(it.blocks, 0, 4, 0),
     "chain.unpack": lambda it: _core.chain_unpack(*it.chain, 0, 4, 0),
 }
@@ -183,6 +190,7 @@ class Longer:
         self.term = fimulowen.Term(self.a, self.ids % 9, steps)
         self.wide_ids = self.ids.astype("u8") << np.uint64(12)
         self.wide = IdSet64(self.wide_ids)
+        self.pair = self.wide, IdSet64(self.wide_ids + np.uint64(3 << 12))
 
 
 @pytest.fixture(scope="module")
@@ -199,6 +207,9 @@ STOPPED = {
     "contains of 64": lambda it: it.wide.contains(it.mixed[: 1 << 21]),
     "rank of 64": lambda it: it.wide.rank(it.positions[: 1 << 21]),
     "gather of 64": lambda it: it.wide.gather(it.positions[: 1 << 20]),
+    "intersect of 64": lambda it: fimulowen.intersect(*it.pair * 2),
+    "| of 64": lambda it: operator.or_(*it.pair),
+    "unite_len of 64": lambda it: fimulowen.unite_len(*it.pair),
     "pack_many": lambda it: IdSet.pack_many(it.ids, it.bounds),
     "open_many": lambda it: IdSet.open_many(it.text, it.ends),
     "slice": lambda it: it.a[:],

@@ -3,6 +3,7 @@
 import sys
 
 import numpy as np
+from fimulowen import IdSet, IdSet64
 
 from tables import VECTORS
 
@@ -71,3 +72,10 @@ def drawn(random, kind, count):
 def form_of(ids):
     """Byte 0 of docs/FORMAT.md."""
     return 8 if len(ids) and len(ids) >= 8 * len(np.unique(ids >> np.uint64(32))) else 9
+
+
+def full(word):
+    """The wide set of the first 2^28 ids with a high word. It is short: a run in each chunk. The bytes are as docs/FORMAT.md says."""
+    body = IdSet(range(2**28)).tobytes()
+    head = bytes.fromhex("08 8080808001 01 42") + word.to_bytes(4, "little") + len(body).to_bytes(2, "little")
+    return IdSet64.open(head + (2**28).to_bytes(4, "little") + body)

@@ -24,6 +24,9 @@ enum { PART = 1 << 20, FEW = 1 << 17 };
             PyEval_RestoreThread(saved);                                                                                               \
     } while (0)
 
+/* The calls that combine sets, by their number. */
+enum { INTERSECT, UNITE, SUBTRACT, XOR };
+
 /* What help() and inspect.signature() say of a call. */
 #define SIGNED(signature, text) signature "\n--\n\n" text
 
@@ -88,6 +91,9 @@ typedef struct {
     size_t count;
 } Source;
 
+/* set_combining.c: the operation of a call by its number, or 0 with an exception. */
+uint32_t operation_of(int call);
+
 /* Writes a set with work space into room, and returns its number of bytes or an error. */
 typedef ptrdiff_t set_writer(const Source *from, uint32_t *work, size_t items, uint8_t *to, size_t room);
 
@@ -119,7 +125,7 @@ METHODS_OF(WideSet); /* wide_set.c */
 
 /* The types and functions of each file. */
 extern PyType_Spec Set_spec, WideSet_spec, Column_spec, Term_spec;
-extern PyMethodDef chain_functions[], set_functions[], combining_functions[], many_functions[], wide_functions[], column_functions[],
-    arrow_functions[], ranked_functions[];
+extern PyMethodDef chain_functions[], set_functions[], combining_functions[], many_functions[], wide_functions[], pair_functions[],
+    column_functions[], arrow_functions[], ranked_functions[];
 
 #endif

@@ -4,7 +4,7 @@
  *     VIEW            the view of the library that has the ids
  *     OBJECT          the object that has the view
  *     CALL(name)      a function of the library for the view
- *     METHOD(name)    a method of the object
+ *     METHOD(name)    a method of the object, and its type
  *     IDS_TYPE        the type of numpy for ids
  *     ITEM            the bytes of an id that _read writes; 0: 4 or 8
  *     NO_ID           the id that seek of many targets returns if there is none */
@@ -263,6 +263,43 @@ static PyObject *METHOD(gather)(PyObject *self, PyObject *positions)
     return array;
 }
 
+/* Whether one is within the other. */
+static int is_within(PyObject *one, PyObject *other)
+{
+    int within = METHOD(length)(one) <= METHOD(length)(other);
+
+    if (within)
+        UNLOCKED(METHOD(length)(one) + METHOD(length)(other), within = CALL(is_subset)(view_of(one), view_of(other)));
+    return within;
+}
+
+PyObject *METHOD(compare)(PyObject *self, PyObject *other, int how)
+{
+    int answer;
+
+    if (!PyObject_TypeCheck(self, METHOD(type)) || !PyObject_TypeCheck(other, METHOD(type)))
+        return Py_NewRef(Py_NotImplemented);
+    if (how == Py_EQ || how == Py_NE)
+        answer = are_same((Packed *)self, (Packed *)other) == (how == Py_EQ);
+    else if (how == Py_LT || how == Py_GT)
+        answer = METHOD(length)(self) != METHOD(length)(other) && (how == Py_LT ? is_within(self, other) : is_within(other, self));
+    else
+        answer = how == Py_LE ? is_within(self, other) : is_within(other, self);
+    return PyBool_FromLong(answer);
+}
+
+static PyObject *METHOD(is_disjoint)(PyObject *self, PyObject *other)
+{
+    int answer;
+
+    if (!PyObject_TypeCheck(other, METHOD(type))) {
+        PyErr_SetString(PyExc_TypeError, "a set expected");
+        return NULL;
+    }
+    UNLOCKED(METHOD(length)(self) + METHOD(length)(other), answer = CALL(is_disjoint)(view_of(self), view_of(other)));
+    return PyBool_FromLong(answer);
+}
+
 /* The methods that sets of both kinds have. */
 #define READING_METHODS \
     {"seek", METHOD(seek), METH_O, SIGNED("seek($self, target, /)", "The position and the id of the first id that is at least the target, or None. Of many targets two arrays: the position is the number of ids, and the id " NO_ID ", if there is none.")}, \
@@ -270,4 +307,5 @@ static PyObject *METHOD(gather)(PyObject *self, PyObject *positions)
     {"_gather", METHOD(gather), METH_O, SIGNED("_gather($self, positions, /)", "The ids at an array of positions, of int64.")}, \
     {"_contains", METHOD(contains_many), METH_O, SIGNED("_contains($self, ids, /)", "Whether the set has each integer of an array.")}, \
     {"_rank", METHOD(rank_many), METH_O, SIGNED("_rank($self, targets, /)", "How many ids are below each target of an array.")}, \
-    {"_read", METHOD(read), METH_O, SIGNED("_read($self, out, /)", "Fills out with ids; returns how many.")}
+    {"_read", METHOD(read), METH_O, SIGNED("_read($self, out, /)", "Fills out with ids; returns how many.")}, \
+    {"_is_disjoint", METHOD(is_disjoint), METH_O, SIGNED("_is_disjoint($self, other, /)", "Whether no id is in both sets.")}

@@ -44,7 +44,7 @@ static PyTypeObject *added(PyObject *m, const char *name, PyType_Spec *spec, PyT
 PyMODINIT_FUNC PyInit__core(void)
 {
     PyMethodDef *functions[] = {chain_functions, set_functions, combining_functions, many_functions,
-                                wide_functions, column_functions, arrow_functions, ranked_functions};
+                                wide_functions, pair_functions, column_functions, arrow_functions, ranked_functions};
     PyObject *m = PyModule_Create(&module);
     size_t i;
 

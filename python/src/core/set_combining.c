@@ -1,10 +1,18 @@
 /* AND, OR, NOT and XOR of sets. */
 #include "core.h"
 
-enum { INTERSECT, UNITE, SUBTRACT, XOR };
-
 /* More bytes than a chunk has. */
 enum { CHUNK = 8500 };
+
+uint32_t operation_of(int call)
+{
+    static const uint32_t operations[] = {BITPACKING_AND, BITPACKING_OR, BITPACKING_AND_NOT, BITPACKING_XOR};
+
+    if (call >= INTERSECT && call <= XOR)
+        return operations[call];
+    PyErr_SetString(PyExc_ValueError, "there is no such call");
+    return 0;
+}
 
 /* Copies the views of a tuple of sets into new memory. */
 static bitpacking_set *views_of(PyObject *sets)
@@ -114,18 +122,16 @@ static Packed *joined(PyTypeObject *type, uint32_t operation, const bitpacking_s
 /* set_join(type, call, sets): the set that an operation on a tuple of sets gives. */
 static PyObject *set_join(PyObject *m, PyObject *args)
 {
-    static const uint32_t operations[] = {BITPACKING_AND, BITPACKING_OR, BITPACKING_AND_NOT, BITPACKING_XOR};
     PyObject *type, *sets, *made = NULL;
     bitpacking_set *views;
+    uint32_t operation;
     int call;
 
     (void)m;
     if (!PyArg_ParseTuple(args, "OiO", &type, &call, &sets) || !subtype_of(Set_type, type) || !(views = views_of(sets)))
         return NULL;
-    if (call < INTERSECT || call > XOR)
-        PyErr_SetString(PyExc_ValueError, "there is no such call");
-    else
-        made = (PyObject *)joined((PyTypeObject *)type, operations[call], views, (size_t)PyTuple_Size(sets));
+    if ((operation = operation_of(call)))
+        made = (PyObject *)joined((PyTypeObject *)type, operation, views, (size_t)PyTuple_Size(sets));
     PyMem_Free(views);
     return made;
 }

@@ -12,31 +12,6 @@
 /* Room for the bitmap of fewer than 128 ids, which take few bytes as a set: 127 containers of one id each take 1,278. */
 enum { FEW_ROOM = 1278 };
 
-/* Whether one is within the other. */
-static int is_within(PyObject *one, PyObject *other)
-{
-    int within = Set_length(one) <= Set_length(other);
-
-    if (within)
-        UNLOCKED(Set_length(one) + Set_length(other), within = bitpacking_set_is_subset(view_of(one), view_of(other)));
-    return within;
-}
-
-PyObject *Set_compare(PyObject *self, PyObject *other, int how)
-{
-    int answer;
-
-    if (!PyObject_TypeCheck(self, Set_type) || !PyObject_TypeCheck(other, Set_type))
-        return Py_NewRef(Py_NotImplemented);
-    if (how == Py_EQ || how == Py_NE)
-        answer = are_same((Packed *)self, (Packed *)other) == (how == Py_EQ);
-    else if (how == Py_LT || how == Py_GT)
-        answer = Set_length(self) != Set_length(other) && (how == Py_LT ? is_within(self, other) : is_within(other, self));
-    else
-        answer = how == Py_LE ? is_within(self, other) : is_within(other, self);
-    return PyBool_FromLong(answer);
-}
-
 /* Sets the byte of each of some ids from a position on. */
 static void mark(const bitpacking_set *view, size_t from, size_t len, uint8_t *out)
 {
@@ -132,18 +107,6 @@ static PyObject *Set_describe(PyObject *self, PyObject *none)
                          (unsigned long long)it.numbers, (unsigned long long)it.blocks, (unsigned long long)it.runs);
 }
 
-static PyObject *Set_is_disjoint(PyObject *self, PyObject *other)
-{
-    int answer;
-
-    if (!PyObject_TypeCheck(other, Set_type)) {
-        PyErr_SetString(PyExc_TypeError, "a set expected");
-        return NULL;
-    }
-    UNLOCKED(Set_length(self) + Set_length(other), answer = bitpacking_set_is_disjoint(view_of(self), view_of(other)));
-    return PyBool_FromLong(answer);
-}
-
 PyMethodDef Set_methods[] = {
     READING_METHODS,
     {"_mask", Set_mask, METH_O, SIGNED("_mask($self, count, /)", "As many bools, which are true at the ids.")},
@@ -151,6 +114,5 @@ PyMethodDef Set_methods[] = {
     {"_to_roaring", Set_to_roaring, METH_NOARGS, SIGNED("_to_roaring($self, /)", "The bitmap of the ids.")},
     {"_count_between", Set_count_between, METH_VARARGS, SIGNED("_count_between($self, low, high, /)", "How many ids are from low to high, both included.")},
     {"_describe", Set_describe, METH_NOARGS, SIGNED("_describe($self, /)", "What the set is like, as six numbers.")},
-    {"_is_disjoint", Set_is_disjoint, METH_O, SIGNED("_is_disjoint($self, other, /)", "Whether no id is in both sets.")},
     {NULL, NULL, 0, NULL},
 };

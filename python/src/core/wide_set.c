@@ -9,13 +9,6 @@
 #define NO_ID "2^64 - 1"
 #include "ids_reading.h"
 
-PyObject *WideSet_compare(PyObject *self, PyObject *other, int how)
-{
-    if ((how != Py_EQ && how != Py_NE) || !PyObject_TypeCheck(self, WideSet_type) || !PyObject_TypeCheck(other, WideSet_type))
-        return Py_NewRef(Py_NotImplemented);
-    return PyBool_FromLong(are_same((Packed *)self, (Packed *)other) == (how == Py_EQ));
-}
-
 /* Writes a byte for each integer: whether the set has it. */
 static void find(const void *view, const uint64_t *items, size_t len, void *out)
 {

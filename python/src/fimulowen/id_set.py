@@ -10,10 +10,9 @@ import numpy.typing as npt
 
 from . import _core, waiting
 from .errors import Error
-from .ids import Ids
+from .ids import UNITE, Ids
 from .values import IDS, MOST, PART, Bytes, Integers, as_array, as_kind, constant, fitted, index, room_for, targets, true_at
 
-INTERSECT, UNITE, SUBTRACT, XOR = range(4)
 _MOST_GROUPS = 1 << 24
 _READ = [np.dtype(it) for it in ("=u4", "=i8", "=u8")]
 Mask = Iterable[Union[bool, np.bool_]]
@@ -31,7 +30,7 @@ class Description(NamedTuple):
     runs: int
 
 
-class IdSet(Ids[np.uint32], _core.Set):
+class IdSet(Ids[np.uint32, "IdSet"], _core.Set):
     """A set of integers from 0 to 4294967295, its ids, in packed bytes. It does not change.
 
     `IdSet(ids)` packs an array or an iterable of integers. They may be in any order, and one may be there twice; increasing ones take the least
@@ -39,7 +38,7 @@ class IdSet(Ids[np.uint32], _core.Set):
     that is no integer from 0 to 4294967295. Error if there are more than 268,435,456 ids."""
 
     __slots__ = ()
-    _NAME, _FORMAT, _NO_ID = "IdSet", "I", np.int64(-1)
+    _NAME, _FORMAT, _NO_ID, _OTHER = "IdSet", "I", np.int64(-1), _core.WideSet
 
     def __new__(cls, ids: Integers = ()) -> IdSet:
         if hasattr(ids, "_node"):
@@ -57,7 +56,7 @@ class IdSet(Ids[np.uint32], _core.Set):
         if made is not None:
             return made
         parts = [_core.set_pack(cls, np.unique(ids[at : at + PART])) for at in range(0, len(ids), PART)]
-        return parts[0] if len(parts) == 1 else joined(UNITE, parts, cls)
+        return parts[0] if len(parts) == 1 else waiting.run(len(ids), _core.set_join, cls, UNITE, tuple(parts))
 
     @classmethod
     def from_roaring(cls, data: Bytes) -> IdSet:
@@ -131,7 +130,7 @@ class IdSet(Ids[np.uint32], _core.Set):
         if end - self.rank(end) > MOST:
             raise Error("More than 268,435,456 values.", "TooLong")
         parts = [IdSet(range(at, min(at + MOST, end))) - self for at in range(0, end, MOST)]
-        return joined(UNITE, parts)
+        return IdSet._joined(UNITE, parts)
 
     def shift(self, by: SupportsIndex) -> IdSet:
         """The set that has `by` added to each id; it may be below 0. Ids that leave the range from 0 to 4294967295 are left out.
@@ -141,61 +140,6 @@ class IdSet(Ids[np.uint32], _core.Set):
         """
         far = 1 << 32
         return waiting.run(len(self), _core.set_shift, IdSet, self, max(-far, min(operator.index(by), far)))
-
-    def __and__(self, other: Integers) -> IdSet:
-        """The ids of both."""
-        return _joined(INTERSECT, self, other)
-
-    def __or__(self, other: Integers) -> IdSet:
-        """The ids of either. Error if there are more than 268,435,456."""
-        return _joined(UNITE, self, other)
-
-    def __sub__(self, other: Integers) -> IdSet:
-        """The ids that only the first has."""
-        return _joined(SUBTRACT, self, other)
-
-    def __xor__(self, other: Integers) -> IdSet:
-        """The ids that one of the two has. Error if there are more than 268,435,456."""
-        return _joined(XOR, self, other)
-
-    def __rsub__(self, other: Integers) -> IdSet:
-        return _joined(SUBTRACT, other, self)
-
-    __rand__, __ror__, __rxor__ = __and__, __or__, __xor__
-
-    def intersection(self, *others: Integers) -> IdSet:
-        """The ids that this set and all others have."""
-        return joined(INTERSECT, (self, *others))
-
-    def union(self, *others: Integers) -> IdSet:
-        """The ids that this set or any other has. Error if there are more than 268,435,456."""
-        return joined(UNITE, (self, *others))
-
-    def difference(self, *others: Integers) -> IdSet:
-        """The ids that only this set has."""
-        return joined(SUBTRACT, (self, *others))
-
-    def symmetric_difference(self, *others: Integers) -> IdSet:
-        """The ids that an odd number of the sets have. Error if there are more than 268,435,456."""
-        return joined(XOR, (self, *others))
-
-    def isdisjoint(self, other: Integers) -> bool:
-        """Whether no id is in both."""
-        return self._is_disjoint(as_set(other))
-
-    def issubset(self, other: Integers) -> bool:
-        """Whether the other has all ids of this set, as `self <= other` says of two sets."""
-        return self <= as_set(other)
-
-    def issuperset(self, other: Integers) -> bool:
-        """Whether this set has all ids of the other, as `self >= other` says of two sets."""
-        return self >= as_set(other)
-
-    def jaccard(self, other: Integers) -> float:
-        """The share of the ids of either set that both have. It is 1 for two empty sets."""
-        one = as_set(other)
-        both = counted(INTERSECT, (self, one))
-        return both / (len(self) + len(one) - both) if both or self or one else 1.0
 
     def unpack(self, out: Optional[np.ndarray] = None, dtype: npt.DTypeLike = None) -> np.ndarray:
         """All ids, as an array of uint32, or of another type: OverflowError if an id does not fit it. They go to the front of `out` if there is
@@ -235,38 +179,27 @@ class IdSet(Ids[np.uint32], _core.Set):
         more = as_kind(ids, IDS)
         return waiting.run(len(self) + len(more), _core.set_append, IdSet, self, more)
 
+    @staticmethod
+    def _operand(it: Integers) -> IdSet:
+        if isinstance(it, _core.WideSet):
+            raise TypeError("an IdSet expected, not IdSet64")
+        return it if isinstance(it, IdSet) else IdSet(it)
+
+    @staticmethod
+    def _combined(call: int, sets: Sequence[IdSet]) -> npt.NDArray[np.uint32]:
+        return waiting.run(sum(map(len, sets)), _core.set_combine, call, tuple(sets))
+
+    @staticmethod
+    def _counted(call: int, sets: Sequence[IdSet]) -> int:
+        return waiting.run(sum(map(len, sets)), _core.set_count, call, tuple(sets))
+
+    @staticmethod
+    def _joined(call: int, sets: Sequence[IdSet]) -> IdSet:
+        return waiting.run(sum(map(len, sets)), _core.set_join, IdSet, call, tuple(sets))
+
 
 def _count(count: SupportsIndex) -> int:
     value = operator.index(count)
     if value < 0:
         raise ValueError("the count is below 0")
     return value
-
-
-def as_set(it: Integers) -> IdSet:
-    if isinstance(it, _core.WideSet):
-        raise TypeError("an IdSet expected: IdSet64 has no set operations")
-    return it if isinstance(it, IdSet) else IdSet(it)
-
-
-def combined(call: int, sets: Sequence[IdSet]) -> npt.NDArray[np.uint32]:
-    """The ids of sets that are combined. For XOR these are two."""
-    return waiting.run(sum(map(len, sets)), _core.set_combine, call, tuple(sets))
-
-
-def counted(call: int, sets: Sequence[IdSet]) -> int:
-    """How many ids all sets have, or any."""
-    return waiting.run(sum(map(len, sets)), _core.set_count, call, tuple(sets))
-
-
-def joined(call: int, sets: Iterable[Integers], kind: type = IdSet) -> Any:
-    """The set that sets give which are combined, from the first to the last."""
-    operands = tuple(map(as_set, sets))
-    return waiting.run(sum(map(len, operands)), _core.set_join, kind, call, operands)
-
-
-def _joined(call: int, one: Any, other: Any) -> Any:
-    # A query joins what is on its left too; IdSet64 has no set operations.
-    if hasattr(other, "_node") or not all(hasattr(it, "__iter__") and not isinstance(it, _core.WideSet) for it in (one, other)):
-        return NotImplemented
-    return joined(call, (one, other))

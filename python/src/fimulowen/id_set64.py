@@ -2,7 +2,7 @@
 
 from __future__ import annotations
 
-from typing import Optional
+from typing import Optional, Sequence
 
 import numpy as np
 import numpy.typing as npt
@@ -12,7 +12,7 @@ from .ids import Ids
 from .values import MOST, WIDE_IDS, Integers, as_kind, fitted, nearest, need_fit, room_for
 
 
-class IdSet64(Ids[np.uint64], _core.WideSet):
+class IdSet64(Ids[np.uint64, "IdSet64"], _core.WideSet):
     """A set of integers from 0 to 18446744073709551615, such as hashes, keys and times, in packed bytes. It does not change.
 
     `IdSet64(ids)` packs an array or an iterable of integers. They may be in any order, and one may be there twice; increasing ones take the least
@@ -23,10 +23,15 @@ class IdSet64(Ids[np.uint64], _core.WideSet):
         >>> ids, 7 in ids, ids.seek(8), ids[-1] == ids.max()
         (<IdSet64 of 3 ids in 25 bytes: [7, 1099511627776, 18446744073709551615]>, True, (1, 1099511627776), True)
 
-    It has the calls of an IdSet that read; there are no set operations yet."""
+    It is read, searched and combined as an IdSet is. An operand is an IdSet64 or another iterable, but no IdSet, which `IdSet64(ids)` converts:
+
+        >>> (ids | [8, 9]) - range(8), ids.isdisjoint([8]), ids > IdSet64([7])
+        (<IdSet64 of 4 ids in 33 bytes: [8, 9, 1099511627776, 18446744073709551615]>, True, True)
+
+    More than two sets are combined by pairs, from the left."""
 
     __slots__ = ()
-    _NAME, _FORMAT, _NO_ID = "IdSet64", "L", np.uint64(WIDE_IDS.greatest)
+    _NAME, _FORMAT, _NO_ID, _OTHER = "IdSet64", "L", np.uint64(WIDE_IDS.greatest), _core.Set
 
     def __new__(cls, ids: Integers = ()) -> IdSet64:
         if isinstance(ids, IdSet64):
@@ -54,3 +59,32 @@ class IdSet64(Ids[np.uint64], _core.WideSet):
     def _rank_many(self, values: Integers) -> npt.NDArray[np.int64]:
         near, is_other = nearest(values)
         return np.where(is_other & (near > 0), len(self), self._rank(near))
+
+    @staticmethod
+    def _operand(it: Integers) -> IdSet64:
+        if isinstance(it, _core.Set) or hasattr(it, "_node"):
+            raise TypeError(f"an IdSet64 expected, not {type(it).__name__}: IdSet64(ids) converts it")
+        return it if isinstance(it, IdSet64) else IdSet64(it)
+
+    @staticmethod
+    def _combined(call: int, sets: Sequence[IdSet64]) -> npt.NDArray[np.uint64]:
+        *before, last = sets
+        if not before:
+            return last.unpack()
+        one = IdSet64._joined(call, before)
+        return waiting.run(len(one) + len(last), _core.wide_combine, call, one, last)
+
+    @staticmethod
+    def _counted(call: int, sets: Sequence[IdSet64]) -> int:
+        *before, last = sets
+        if not before:
+            return len(last)
+        one = IdSet64._joined(call, before)
+        return waiting.run(len(one) + len(last), _core.wide_count, call, one, last)
+
+    @staticmethod
+    def _joined(call: int, sets: Sequence[IdSet64]) -> IdSet64:
+        one = IdSet64(sets[0])
+        for it in sets[1:]:
+            one = waiting.run(len(one) + len(it), _core.wide_join, IdSet64, call, one, it)
+        return one

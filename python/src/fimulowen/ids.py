@@ -4,7 +4,7 @@ from __future__ import annotations
 
 import hashlib
 import pickle
-from typing import Any, Generic, Iterator, List, Optional, SupportsIndex, Tuple, Type, TypeVar
+from typing import Any, Callable, Generic, Iterator, List, Optional, Sequence, SupportsIndex, Tuple, Type, TypeVar
 
 import numpy as np
 import numpy.typing as npt
@@ -12,21 +12,33 @@ import numpy.typing as npt
 from . import _core, waiting
 from .values import PART, Bytes, Integers, constant, index
 
+INTERSECT, UNITE, SUBTRACT, XOR = range(4)
 _FEW = 4096
-Own = TypeVar("Own", bound="Ids[Any]")
+Own = TypeVar("Own", bound="Ids[Any, Any]")
 Id = TypeVar("Id", bound=np.generic)
+Answer = TypeVar("Answer", bound="Ids[Any, Any]")
 
 
-class Ids(_core.Packed, Generic[Id]):
-    """A set of ids in packed bytes. A class below is also of a class of _core, which has the calls of the library for its ids."""
+class Ids(_core.Packed, Generic[Id, Answer]):
+    """A set of ids in packed bytes. A class below is also of a class of _core, which has the calls of the library for its ids. The operators return
+    sets of the class `Answer`, also if they are called for a subclass of it."""
 
     __slots__ = ()
     __array_ufunc__ = None  # array & set must not be a bitwise AND of numbers
 
-    # The name for repr, the format of an id for Arrow, and the id that seek of many targets returns if there is none.
+    # The name for repr, the format of an id for Arrow, the id that seek of many targets returns if there is none, and the class of _core that has ids
+    # of the other size.
     _NAME: str
     _FORMAT: str
     _NO_ID: Any
+    _OTHER: type
+
+    # The set of an operand, or a TypeError if its ids have the other size; what sets have that are combined, as an array and as a set; and how many ids
+    # all sets have, or any.
+    _operand: Callable[[Integers], Answer]
+    _combined: Callable[[int, Sequence[Answer]], npt.NDArray[Id]]
+    _joined: Callable[[int, Sequence[Answer]], Answer]
+    _counted: Callable[[int, Sequence[Answer]], int]
 
     @classmethod
     def open(cls: Type[Own], data: Bytes) -> Own:
@@ -96,3 +108,68 @@ class Ids(_core.Packed, Generic[Id]):
         ids, there = np.full(len(at), self._NO_ID), at < len(self)
         ids[there] = self[:][at[there]] if 16 * len(at) > len(self) else self._gather(at[there])
         return at, ids
+
+    def __and__(self, other: Integers) -> Answer:
+        """The ids of both."""
+        return self._operated(INTERSECT, self, other)
+
+    def __or__(self, other: Integers) -> Answer:
+        """The ids of either. Error if there are more than 268,435,456."""
+        return self._operated(UNITE, self, other)
+
+    def __sub__(self, other: Integers) -> Answer:
+        """The ids that only the first has."""
+        return self._operated(SUBTRACT, self, other)
+
+    def __xor__(self, other: Integers) -> Answer:
+        """The ids that one of the two has. Error if there are more than 268,435,456."""
+        return self._operated(XOR, self, other)
+
+    def __rsub__(self, other: Integers) -> Answer:
+        return self._operated(SUBTRACT, other, self)
+
+    __rand__, __ror__, __rxor__ = __and__, __or__, __xor__
+
+    def intersection(self, *others: Integers) -> Answer:
+        """The ids that this set and all others have."""
+        return self._of_all(INTERSECT, others)
+
+    def union(self, *others: Integers) -> Answer:
+        """The ids that this set or any other has. Error if there are more than 268,435,456."""
+        return self._of_all(UNITE, others)
+
+    def difference(self, *others: Integers) -> Answer:
+        """The ids that only this set has."""
+        return self._of_all(SUBTRACT, others)
+
+    def symmetric_difference(self, *others: Integers) -> Answer:
+        """The ids that an odd number of the sets have. Error if there are more than 268,435,456."""
+        return self._of_all(XOR, others)
+
+    def isdisjoint(self, other: Integers) -> bool:
+        """Whether no id is in both."""
+        return self._is_disjoint(self._operand(other))
+
+    def issubset(self, other: Integers) -> bool:
+        """Whether the other has all ids of this set, as `self <= other` says of two sets."""
+        return self <= self._operand(other)
+
+    def issuperset(self, other: Integers) -> bool:
+        """Whether this set has all ids of the other, as `self >= other` says of two sets."""
+        return self >= self._operand(other)
+
+    def jaccard(self, other: Integers) -> float:
+        """The share of the ids of either set that both have. It is 1 for two empty sets."""
+        one = self._operand(other)
+        both = self._counted(INTERSECT, (self, one))
+        return both / (len(self) + len(one) - both) if both or self or one else 1.0
+
+    def _of_all(self, call: int, others: Tuple[Integers, ...]) -> Answer:
+        return self._joined(call, (self, *map(self._operand, others)))
+
+    @classmethod
+    def _operated(cls, call: int, one: Any, other: Any) -> Any:
+        # A query joins what is on its left too. Ids of two sizes are not combined.
+        if hasattr(other, "_node") or not all(hasattr(it, "__iter__") and not isinstance(it, cls._OTHER) for it in (one, other)):
+            return NotImplemented
+        return cls._joined(call, (cls._operand(one), cls._operand(other)))

@@ -9,7 +9,7 @@ import numpy as np
 import numpy.typing as npt
 
 from .combining import intersect, subtract, symmetric_difference, unite
-from .id_set import IdSet, as_set
+from .id_set import IdSet
 from .values import Integers, fitted
 
 # A set, or a call with its operands.
@@ -37,7 +37,7 @@ class Query:
     __array_ufunc__ = None  # array & query must not be a bitwise AND of numbers
 
     def __init__(self, ids: Integers):
-        self._node: _Node = ids._node if isinstance(ids, Query) else as_set(ids)
+        self._node: _Node = ids._node if isinstance(ids, Query) else IdSet._operand(ids)
 
     def __and__(self, other: Integers) -> Query:
         return _joined(intersect, self, other)

@@ -11,7 +11,7 @@ import numpy.typing as npt
 from . import _core, waiting
 from .combining import intersect
 from .errors import Error
-from .id_set import IdSet, as_set
+from .id_set import IdSet
 from .query import Query
 from .values import Bytes, Integers, u32
 
@@ -39,7 +39,7 @@ class Term(_core.Term):
 
     def __new__(cls, documents: Integers, counts: Integers, table: npt.ArrayLike, classes: Bytes = b"") -> Term:
         its = _bytes_of(classes)
-        made: Any = _core.term(cls, as_set(documents), u32(counts), _rows_of(table), its)
+        made: Any = _core.term(cls, IdSet._operand(documents), u32(counts), _rows_of(table), its)
         made._classes = its
         return made
 
@@ -78,7 +78,7 @@ class BM25:
     def term(self, documents: Integers, counts: Integers) -> Term:
         """The term of a word that these documents have, each as often as its count says. IndexError if a document has no length. Error, with the
         fault BadLength, if there are more documents than counts, or fewer."""
-        ids, often, number = as_set(documents), u32(counts), len(self._classes)
+        ids, often, number = IdSet._operand(documents), u32(counts), len(self._classes)
         if len(ids) and ids[-1] >= number:
             raise IndexError(f"document {ids[-1]} has no length: there are {number}")
         weight = self._weight * np.log(1 + (number - len(ids) + 0.5) / (len(ids) + 0.5))
