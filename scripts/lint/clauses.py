@@ -16,7 +16,7 @@ BELIEVED = [it for it in re.findall(r"(?m)^(\w+)[^:\n]*:", text_of("crates.txt")
 # The crates that a reader uses. The contracts of the others serve these, or are examples.
 USED = [it for it in BELIEVED if it not in ("bitpacking_register", "bitpack_groups", "bitpack_slices", "bitpack_uses")]
 # The most lines of definitions to believe. If there are fewer, it is lowered.
-MOST = 2305
+MOST = 2341
 # What laws and clauses determine but for which fault is first: the faults and the readers. And what only `from_parts` requires. By crate and file.
 BY_LAWS = {
     "bitpack_lists.Version1": ["fault1"],
