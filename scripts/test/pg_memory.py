@@ -88,7 +88,7 @@ def kept_constant(server):
 
 def kept_stored(server):
     """A set in TOAST is opened once for all rows: those of a subquery take as long as those of a short one."""
-    sql = "SELECT count(*) FROM generate_series(1, 60000) i WHERE (SELECT ids FROM {} WHERE n = 1) @> i"
+    sql = "SELECT count(*) FROM generate_series(1, 240000) i WHERE (SELECT ids FROM {} WHERE n = 1) @> i"
     short, long = (seconds(server, sql.format(it)) for it in ("short", "stored"))
     yield "a stored set is opened once", None if long < 2 * short + 0.1 else f"{short:.2f} and {long:.2f} s"
 
