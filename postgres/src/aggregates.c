@@ -14,9 +14,10 @@ enum { MANY_BYTES = 1 << 18, AND_BYTES = 1 << 14 };
  * and a XOR have no other order, so that sets are combined level by level: each set at a level comes from MANY_SETS of the level below. The
  * sets have `bytes` bytes in all, and had `before` when all were last combined. */
 typedef struct {
-    uint32 operation, *numbers;
+    uint32 operation;
+    set_id *numbers;
     size_t len, room;
-    bitpacking_set *sets;
+    set_view *sets;
     size_t count, sets_room, bytes, before, at_level[LEVELS];
 } collected;
 
@@ -25,7 +26,7 @@ static MemoryContext context_of(FunctionCallInfo fcinfo)
     MemoryContext context;
 
     if (!AggCheckCallContext(fcinfo, &context))
-        elog(ERROR, "idset: an aggregate's function was called alone");
+        elog(ERROR, TYPE_NAME ": an aggregate's function was called alone");
     return context;
 }
 
@@ -71,20 +72,20 @@ static void make_room(collected *it, size_t more)
     if (it->len + more <= it->room / 2)
         return;
     it->room = Max(2 * (it->len + more), FIRST_NUMBERS);
-    it->numbers = grown(it, it->numbers, sizeof(uint32) * it->room);
+    it->numbers = grown(it, it->numbers, sizeof(set_id) * it->room);
 }
 
 /* Puts a set over a copy of its bytes after the others. */
 static void push(collected *it, const uint8_t *bytes, size_t size)
 {
     uint8_t *copy = MemoryContextAllocHuge(GetMemoryChunkContext(it), size);
-    bitpacking_set set = BITPACKING_SET_EMPTY;
+    set_view set = NO_IDS;
 
     if (it->count == it->sets_room) {
         it->sets_room = Max(2 * it->count, FIRST_SETS);
         it->sets = grown(it, it->sets, sizeof *it->sets * it->sets_room);
     }
-    bitpacking_set_open_tested(memcpy(copy, bytes, size), size, &set);
+    CALL(open_tested)(memcpy(copy, bytes, size), size, &set);
     it->sets[it->count++] = set;
     it->bytes += size;
 }
@@ -92,7 +93,7 @@ static void push(collected *it, const uint8_t *bytes, size_t size)
 /* Combines the last sets into one. If it would have too many ids they stay: a XOR may have fewer at the end. */
 static void combine_last(collected *it, size_t count)
 {
-    bitpacking_set *last = it->sets + it->count - count;
+    set_view *last = it->sets + it->count - count;
     struct varlena *value;
     ptrdiff_t size;
     size_t i;
@@ -100,7 +101,7 @@ static void combine_last(collected *it, size_t count)
     CHECK_FOR_INTERRUPTS();
     if (count < 2)
         return;
-    size = combine(it->operation, last, count, &value);
+    size = combine_many(it->operation, last, count, &value);
     for (i = 0; size >= 0 && i < count; i++) {
         it->bytes -= last[i].bytes_len;
         pfree((void *)last[i].bytes);
@@ -120,16 +121,16 @@ static void combine_all(collected *it)
 }
 
 /* Takes a set. Ids that are not in chunks are fewer than four of a chunk, and are sorted faster than sets are combined. */
-static void take(collected *it, const bitpacking_set *set)
+static void take(collected *it, const set_view *set)
 {
-    size_t len = bitpacking_set_len(set), level;
+    size_t len = CALL(len)(set), level;
     bool is_and = it->operation == BITPACKING_AND;
 
-    if (is_and && it->count == 1 && bitpacking_set_len(it->sets) == 0)
+    if (is_and && it->count == 1 && CALL(len)(it->sets) == 0)
         return;
-    if (!is_and && bitpacking_set_combine_room(set, 1) > len) {
+    if (!is_and && is_sparse(set)) {
         make_room(it, len);
-        it->len += (size_t)bitpacking_set_unpack(set, it->numbers + it->len, len);
+        it->len += (size_t)CALL(unpack)(set, it->numbers + it->len, len);
         return;
     }
     push(it, set->bytes, set->bytes_len);
@@ -153,9 +154,9 @@ static void push_numbers(collected *it)
         return;
     do {
         len = Min(it->len - from, PART);
-        room = BITPACKING_SET_ROOM(len);
+        room = ROOM(len);
         bytes = palloc_extended(room, MCXT_ALLOC_HUGE);
-        size = bitpacking_set_pack(it->numbers + from, len, bytes, room, NULL);
+        size = pack(it->numbers + from, len, bytes, room);
         if (size < 0)
             refuse(size);
         push(it, bytes, (size_t)size);
@@ -165,7 +166,7 @@ static void push_numbers(collected *it)
 }
 
 /* The set of all that was collected, or NULL if it would have too many ids. */
-static const bitpacking_set *whole(collected *it)
+static const set_view *whole(collected *it)
 {
     push_numbers(it);
     combine_all(it);
@@ -173,7 +174,7 @@ static const bitpacking_set *whole(collected *it)
 }
 
 /* A value with the bytes of this set. */
-static struct varlena *value_of(const bitpacking_set *set)
+static struct varlena *value_of(const set_view *set)
 {
     struct varlena *value;
 
@@ -188,7 +189,7 @@ static struct varlena *value_of(const bitpacking_set *set)
 /* The state with a number more. */
 static Datum with_number(FunctionCallInfo fcinfo, int64 number)
 {
-    uint32 id = as_id(number);
+    set_id id = as_id(number);
     collected *it = state_of(fcinfo);
 
     make_room(it, 1);
@@ -196,19 +197,16 @@ static Datum with_number(FunctionCallInfo fcinfo, int64 number)
     PG_RETURN_POINTER(it);
 }
 
-PG_FUNCTION_INFO_V1(idset_gather_int2);
-Datum idset_gather_int2(PG_FUNCTION_ARGS) { return PG_ARGISNULL(1) ? unchanged(fcinfo) : with_number(fcinfo, PG_GETARG_INT16(1)); }
+FUNCTION(gather_int2) { return PG_ARGISNULL(1) ? unchanged(fcinfo) : with_number(fcinfo, PG_GETARG_INT16(1)); }
 
-PG_FUNCTION_INFO_V1(idset_gather_int4);
-Datum idset_gather_int4(PG_FUNCTION_ARGS) { return PG_ARGISNULL(1) ? unchanged(fcinfo) : with_number(fcinfo, PG_GETARG_INT32(1)); }
+FUNCTION(gather_int4) { return PG_ARGISNULL(1) ? unchanged(fcinfo) : with_number(fcinfo, PG_GETARG_INT32(1)); }
 
-PG_FUNCTION_INFO_V1(idset_gather_int8);
-Datum idset_gather_int8(PG_FUNCTION_ARGS) { return PG_ARGISNULL(1) ? unchanged(fcinfo) : with_number(fcinfo, PG_GETARG_INT64(1)); }
+FUNCTION(gather_int8) { return PG_ARGISNULL(1) ? unchanged(fcinfo) : with_number(fcinfo, PG_GETARG_INT64(1)); }
 
 /* The state with the set of a row too. */
 static Datum with_row(FunctionCallInfo fcinfo, uint32 operation)
 {
-    bitpacking_set set;
+    set_view set;
     collected *it;
 
     if (PG_ARGISNULL(1))
@@ -220,14 +218,11 @@ static Datum with_row(FunctionCallInfo fcinfo, uint32 operation)
     PG_RETURN_POINTER(it);
 }
 
-PG_FUNCTION_INFO_V1(idset_gather_or);
-Datum idset_gather_or(PG_FUNCTION_ARGS) { return with_row(fcinfo, BITPACKING_OR); }
+FUNCTION(gather_or) { return with_row(fcinfo, BITPACKING_OR); }
 
-PG_FUNCTION_INFO_V1(idset_gather_xor);
-Datum idset_gather_xor(PG_FUNCTION_ARGS) { return with_row(fcinfo, BITPACKING_XOR); }
+FUNCTION(gather_xor) { return with_row(fcinfo, BITPACKING_XOR); }
 
-PG_FUNCTION_INFO_V1(idset_gather_and);
-Datum idset_gather_and(PG_FUNCTION_ARGS) { return with_row(fcinfo, BITPACKING_AND); }
+FUNCTION(gather_and) { return with_row(fcinfo, BITPACKING_AND); }
 
 /* Two states as one. */
 static Datum joined(FunctionCallInfo fcinfo, uint32 operation)
@@ -246,27 +241,22 @@ static Datum joined(FunctionCallInfo fcinfo, uint32 operation)
     PG_RETURN_POINTER(it);
 }
 
-PG_FUNCTION_INFO_V1(idset_combine_or);
-Datum idset_combine_or(PG_FUNCTION_ARGS) { return joined(fcinfo, BITPACKING_OR); }
+FUNCTION(combine_or) { return joined(fcinfo, BITPACKING_OR); }
 
-PG_FUNCTION_INFO_V1(idset_combine_xor);
-Datum idset_combine_xor(PG_FUNCTION_ARGS) { return joined(fcinfo, BITPACKING_XOR); }
+FUNCTION(combine_xor) { return joined(fcinfo, BITPACKING_XOR); }
 
-PG_FUNCTION_INFO_V1(idset_combine_and);
-Datum idset_combine_and(PG_FUNCTION_ARGS) { return joined(fcinfo, BITPACKING_AND); }
+FUNCTION(combine_and) { return joined(fcinfo, BITPACKING_AND); }
 
 /* A state as the bytes of its set, for another process. */
-PG_FUNCTION_INFO_V1(idset_serialize);
-Datum idset_serialize(PG_FUNCTION_ARGS)
+FUNCTION(serialize)
 {
     context_of(fcinfo);
     PG_RETURN_POINTER(value_of(whole((collected *)PG_GETARG_POINTER(0))));
 }
 
-PG_FUNCTION_INFO_V1(idset_deserialize);
-Datum idset_deserialize(PG_FUNCTION_ARGS)
+FUNCTION(deserialize)
 {
-    bitpacking_set set = opened(PG_GETARG_VARLENA_PP(0));
+    set_view set = opened(PG_GETARG_VARLENA_PP(0));
     collected *it = new_collected(CurrentMemoryContext);
 
     context_of(fcinfo);
@@ -274,8 +264,7 @@ Datum idset_deserialize(PG_FUNCTION_ARGS)
     PG_RETURN_POINTER(it);
 }
 
-PG_FUNCTION_INFO_V1(idset_final);
-Datum idset_final(PG_FUNCTION_ARGS)
+FUNCTION(final)
 {
     struct varlena *value;
 
@@ -287,11 +276,11 @@ Datum idset_final(PG_FUNCTION_ARGS)
 }
 
 /* Only how many ids the set of all rows has. An OR may have more than a set. */
-PG_FUNCTION_INFO_V1(idset_final_len);
-Datum idset_final_len(PG_FUNCTION_ARGS)
+FUNCTION(final_len)
 {
-    const bitpacking_set *set;
+    const set_view *set;
     collected *it;
+    ptrdiff_t count;
 
     context_of(fcinfo);
     if (PG_ARGISNULL(0))
@@ -299,8 +288,9 @@ Datum idset_final_len(PG_FUNCTION_ARGS)
     it = (collected *)PG_GETARG_POINTER(0);
     set = whole(it);
     if (set)
-        PG_RETURN_INT64((int64)bitpacking_set_len(set));
-    if (it->operation != BITPACKING_OR)
-        refuse(BITPACKING_TOO_LONG);
-    PG_RETURN_INT64((int64)bitpacking_set_count_any(it->sets, it->count));
+        PG_RETURN_INT64((int64)CALL(len)(set));
+    count = it->operation == BITPACKING_OR ? count_any(it->sets, it->count) : BITPACKING_TOO_LONG;
+    if (count < 0)
+        refuse(count);
+    PG_RETURN_INT64((int64)count);
 }

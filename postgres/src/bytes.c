@@ -7,25 +7,23 @@
 #include "nodes/primnodes.h"
 #include "utils/memutils.h"
 
-PG_MODULE_MAGIC;
-
 /* A setting of the server, in none of its headers: pages with a wrong checksum are read all the same. */
 extern PGDLLIMPORT bool ignore_checksum_failure;
 
 /* The longest text of a value, in bytes. A row with it still has room for others in the 1 GB that PostgreSQL gives a line of COPY. */
-enum { MAX_TEXT = 1000000000, LONGEST_ID = 11 };
+enum { MAX_TEXT = 1000000000 };
 
 /* A set that was opened in an earlier call of a query, over a copy of its bytes. If the value is in TOAST, `pointer` says where; then a value
  * that came only once has no copy yet. */
 typedef struct {
-    bitpacking_set set;
+    set_view set;
     struct varlena *value;
     bool constant, stored;
     struct varatt_external pointer;
 } kept_set;
 
 /* A text of the library without the point at its end. */
-static char *text_of(ptrdiff_t number)
+char *text_of(ptrdiff_t number)
 {
     const char *text = bitpacking_error_text(number);
 
@@ -37,48 +35,50 @@ void refuse(ptrdiff_t number)
 {
     int code = number == BITPACKING_TOO_LONG ? ERRCODE_PROGRAM_LIMIT_EXCEEDED : ERRCODE_INTERNAL_ERROR;
 
-    ereport(ERROR, (errcode(code), errmsg("idset: %s", text_of(number))));
+    ereport(ERROR, (errcode(code), errmsg(TYPE_NAME ": %s", text_of(number))));
 }
 
 /* Fails with what is wrong with bytes. Stored bytes were tested before: then the page is damaged. */
 static void pg_attribute_noreturn() refuse_bytes(ptrdiff_t number, bool stored)
 {
     ereport(ERROR, (errcode(stored ? ERRCODE_DATA_CORRUPTED : ERRCODE_INVALID_BINARY_REPRESENTATION),
-                    errmsg("%s idset: %s", stored ? "damaged" : "invalid", text_of(number)),
+                    errmsg("%s " TYPE_NAME ": %s", stored ? "damaged" : "invalid", text_of(number)),
                     stored ? errhint("Restore the row from a backup. Data checksums find damage that has no other sign.") : 0));
 }
 
 /* Fails if the text of a set is too long for COPY, and so for pg_dump. It has two brackets, the digits of each id, and commas. */
-static void limit_text(const bitpacking_set *set)
+static void limit_text(const set_view *set)
 {
-    size_t len = bitpacking_set_len(set), size = 1 + 2 * len;
+    size_t len = CALL(len)(set), size = 1 + 2 * len;
 
     if (len <= MAX_TEXT / LONGEST_ID)
         return;
-    for (int64 power = 10; power <= UINT32_MAX; power *= 10)
-        size += len - rank_of(set, power);
+    for (set_id power = 1; power <= MOST_ID / 10;) {
+        power *= 10;
+        size += len - CALL(rank)(set, power);
+    }
     if (size > MAX_TEXT)
-        ereport(ERROR, (errcode(ERRCODE_PROGRAM_LIMIT_EXCEEDED), errmsg("the text of the idset would have %zu bytes", size),
+        ereport(ERROR, (errcode(ERRCODE_PROGRAM_LIMIT_EXCEEDED), errmsg("the text of the " TYPE_NAME " would have %zu bytes", size),
                         errdetail("It may have %d, so that COPY and pg_dump can write it.", MAX_TEXT),
                         errhint("Store the ids in several rows.")));
 }
 
 /* Opens bytes, which tests all of them. */
-static bitpacking_set opened_bytes(const uint8_t *bytes, size_t len, bool stored)
+static set_view opened_bytes(const uint8_t *bytes, size_t len, bool stored)
 {
-    bitpacking_set set = BITPACKING_SET_EMPTY;
-    ptrdiff_t fault = bitpacking_set_open(bytes, len, &set);
+    set_view set = NO_IDS;
+    ptrdiff_t fault = CALL(open)(bytes, len, &set);
 
     if (fault < 0)
         refuse_bytes(fault, stored);
     return set;
 }
 
-static bitpacking_set opened_tested(struct varlena *value)
+static set_view opened_tested(struct varlena *value)
 {
-    bitpacking_set set = BITPACKING_SET_EMPTY;
+    set_view set = NO_IDS;
 
-    bitpacking_set_open_tested((const uint8_t *)VARDATA_ANY(value), VARSIZE_ANY_EXHDR(value), &set);
+    CALL(open_tested)((const uint8_t *)VARDATA_ANY(value), VARSIZE_ANY_EXHDR(value), &set);
     return set;
 }
 
@@ -87,7 +87,7 @@ static bitpacking_set opened_tested(struct varlena *value)
 static bool are_trusted(void) { return DataChecksumsEnabled() && !ignore_checksum_failure; }
 
 /* Opens a value of the type, whose header may be short. */
-bitpacking_set opened(struct varlena *value)
+set_view opened(struct varlena *value)
 {
     return are_trusted() ? opened_tested(value) : opened_bytes((const uint8_t *)VARDATA_ANY(value), VARSIZE_ANY_EXHDR(value), true);
 }
@@ -123,7 +123,7 @@ static void forget(kept_set *kept)
 }
 
 /* Opens an argument and keeps the set, and a copy of its bytes, for the next call. */
-static bitpacking_set opened_to_keep(FmgrInfo *call, int number, struct varlena *value, bool constant)
+static set_view opened_to_keep(FmgrInfo *call, int number, struct varlena *value, bool constant)
 {
     kept_set *kept = kept_of(call, number);
     struct varlena *copy;
@@ -138,11 +138,11 @@ static bitpacking_set opened_to_keep(FmgrInfo *call, int number, struct varlena 
 
 /* Opens an argument in TOAST. It is kept if it comes a second time in a row, so a scan of many sets copies none. The bytes at a pointer never
  * change while a query may see them, and PostgreSQL gives the number of a removed value to another one after four billion others. */
-static bitpacking_set opened_stored(FmgrInfo *call, int number, struct varlena *value)
+static set_view opened_stored(FmgrInfo *call, int number, struct varlena *value)
 {
     kept_set *kept = kept_of(call, number);
     struct varatt_external pointer;
-    bitpacking_set set;
+    set_view set;
     bool again;
 
     VARATT_EXTERNAL_GET_POINTER(pointer, value);
@@ -163,7 +163,7 @@ static bitpacking_set opened_stored(FmgrInfo *call, int number, struct varlena *
 
 /* Opens an argument. The set of a constant, and one in TOAST, is opened once for all rows of a query. A parameter is compared with the one
  * before, since a function may call with another. */
-bitpacking_set opened_argument(FunctionCallInfo fcinfo, int number)
+set_view opened_argument(FunctionCallInfo fcinfo, int number)
 {
     FmgrInfo *call = fcinfo->flinfo;
     Node *node = call ? argument_node(call, number) : NULL;
@@ -184,33 +184,32 @@ bitpacking_set opened_argument(FunctionCallInfo fcinfo, int number)
 /* Ends a value after the bytes of a set, which the library wrote, and gives back the memory after them. */
 struct varlena *ended(struct varlena *value, size_t size)
 {
-    bitpacking_set set = BITPACKING_SET_EMPTY;
+    set_view set = NO_IDS;
 
-    bitpacking_set_open_tested((const uint8_t *)VARDATA(value), size, &set);
+    CALL(open_tested)((const uint8_t *)VARDATA(value), size, &set);
     limit_text(&set);
     SET_VARSIZE(value, VARHDRSZ + size);
     return repalloc(value, VARHDRSZ + size);
 }
 
 /* Packs a set of ids, which increase. */
-struct varlena *packed(const uint32 *ids, size_t len)
+struct varlena *packed(const set_id *ids, size_t len)
 {
-    size_t room = BITPACKING_SET_ROOM(len);
+    size_t room = ROOM(len);
     struct varlena *value = palloc_extended(VARHDRSZ + room, MCXT_ALLOC_HUGE);
-    ptrdiff_t size = bitpacking_set_pack(ids, len, (uint8_t *)VARDATA(value), room, NULL);
+    ptrdiff_t size = pack(ids, len, (uint8_t *)VARDATA(value), room);
 
     if (size < 0)
         refuse(size);
     return ended(value, (size_t)size);
 }
 
-PG_FUNCTION_INFO_V1(idset_recv);
-Datum idset_recv(PG_FUNCTION_ARGS)
+FUNCTION(recv)
 {
     StringInfo from = (StringInfo)PG_GETARG_POINTER(0);
     int len = from->len - from->cursor;
     struct varlena *value = palloc(VARHDRSZ + (size_t)len);
-    bitpacking_set set;
+    set_view set;
 
     SET_VARSIZE(value, VARHDRSZ + len);
     pq_copymsgbytes(from, VARDATA(value), len);
@@ -220,62 +219,17 @@ Datum idset_recv(PG_FUNCTION_ARGS)
 }
 
 /* The bytes, once they are tested: the cast from bytea. */
-PG_FUNCTION_INFO_V1(idset_of_bytea);
-Datum idset_of_bytea(PG_FUNCTION_ARGS)
+FUNCTION(of_bytea)
 {
     struct varlena *value = PG_GETARG_VARLENA_PP(0);
-    bitpacking_set set = opened_bytes((const uint8_t *)VARDATA_ANY(value), VARSIZE_ANY_EXHDR(value), false);
+    set_view set = opened_bytes((const uint8_t *)VARDATA_ANY(value), VARSIZE_ANY_EXHDR(value), false);
 
     limit_text(&set);
     PG_RETURN_POINTER(value);
 }
 
-/* Fails with what is wrong with a bitmap in Roaring's portable format. */
-static void pg_attribute_noreturn() refuse_bitmap(ptrdiff_t number)
-{
-    if (number == BITPACKING_TOO_LONG)
-        refuse(number);
-    ereport(ERROR, (errcode(ERRCODE_INVALID_BINARY_REPRESENTATION), errmsg("invalid bitmap of Roaring: %s", text_of(number))));
-}
-
-/* The set of a bitmap. Room for five quarters of its bytes is usually enough. It doubles until it is. */
-PG_FUNCTION_INFO_V1(idset_from_roaring);
-Datum idset_from_roaring(PG_FUNCTION_ARGS)
-{
-    struct varlena *bitmap = PG_GETARG_VARLENA_PP(0), *value = NULL;
-    const uint8_t *bytes = (const uint8_t *)VARDATA_ANY(bitmap);
-    size_t len = VARSIZE_ANY_EXHDR(bitmap), room = len / 4 * 5 + 16, items = bitpacking_set_from_roaring_room(bytes, len);
-    uint32 *work = new_ids(items);
-    ptrdiff_t size = BITPACKING_SHORT;
-
-    for (; size == BITPACKING_SHORT; room *= 2) {
-        if (value)
-            pfree(value);
-        value = palloc_extended(VARHDRSZ + room, MCXT_ALLOC_HUGE);
-        size = bitpacking_set_from_roaring(bytes, len, work, items, (uint8_t *)VARDATA(value), room);
-    }
-    if (size < 0)
-        refuse_bitmap(size);
-    pfree(work);
-    PG_RETURN_POINTER(ended(value, (size_t)size));
-}
-
-/* The ids as a bitmap. */
-PG_FUNCTION_INFO_V1(idset_to_roaring);
-Datum idset_to_roaring(PG_FUNCTION_ARGS)
-{
-    bitpacking_set set = opened_argument(fcinfo, 0);
-    size_t size = bitpacking_set_roaring_size(&set);
-    struct varlena *bitmap = palloc(VARHDRSZ + size);
-
-    bitpacking_set_to_roaring(&set, (uint8_t *)VARDATA(bitmap), size);
-    SET_VARSIZE(bitmap, VARHDRSZ + size);
-    PG_RETURN_POINTER(bitmap);
-}
-
 /* A copy of the bytes: the cast to bytea, and what is sent in the binary form. Replication frees it. */
-PG_FUNCTION_INFO_V1(idset_send);
-Datum idset_send(PG_FUNCTION_ARGS)
+FUNCTION(send)
 {
     struct varlena *value = (struct varlena *)PG_GETARG_BYTEA_P_COPY(0);
 

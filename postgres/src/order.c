@@ -4,23 +4,23 @@
 
 #include "miscadmin.h"
 
-static bool same_bytes(const bitpacking_set *a, const bitpacking_set *b)
+static bool same_bytes(const set_view *a, const set_view *b)
 {
     return a->bytes_len == b->bytes_len && memcmp(a->bytes, b->bytes, a->bytes_len) == 0;
 }
 
 /* Below, at or above 0, as the first id that differs says. A set comes before a longer one that begins with it. */
-static int sign_of(const bitpacking_set *a, const bitpacking_set *b)
+static int sign_of(const set_view *a, const set_view *b)
 {
-    size_t a_len = bitpacking_set_len(a), b_len = bitpacking_set_len(b), shorter = Min(a_len, b_len), from, i;
-    uint32 a_ids[PIECE], b_ids[PIECE];
+    size_t a_len = CALL(len)(a), b_len = CALL(len)(b), shorter = Min(a_len, b_len), from, i;
+    set_id a_ids[PIECE], b_ids[PIECE];
 
     if (same_bytes(a, b))
         return 0;
     for (from = 0; from < shorter; from += PIECE) {
         CHECK_FOR_INTERRUPTS();
-        bitpacking_set_slice(a, from, a_ids, PIECE);
-        bitpacking_set_slice(b, from, b_ids, PIECE);
+        CALL(slice)(a, from, a_ids, PIECE);
+        CALL(slice)(b, from, b_ids, PIECE);
         for (i = 0; i < PIECE && from + i < shorter; i++)
             if (a_ids[i] != b_ids[i])
                 return a_ids[i] < b_ids[i] ? -1 : 1;
@@ -32,7 +32,7 @@ static int sign_of(const bitpacking_set *a, const bitpacking_set *b)
 static int compared(FunctionCallInfo fcinfo)
 {
     struct varlena *one = PG_GETARG_VARLENA_PP(0), *other = PG_GETARG_VARLENA_PP(1);
-    bitpacking_set a = opened(one), b = opened(other);
+    set_view a = opened(one), b = opened(other);
     int sign = sign_of(&a, &b);
 
     PG_FREE_IF_COPY(one, 0);
@@ -42,8 +42,7 @@ static int compared(FunctionCallInfo fcinfo)
 
 /* An operator by the sign of the comparison. */
 #define COMPARISON(name, test)                                                                                                         \
-    PG_FUNCTION_INFO_V1(idset_##name);                                                                                                 \
-    Datum idset_##name(PG_FUNCTION_ARGS)                                                                                               \
+    FUNCTION(name)                                                                                                                     \
     {                                                                                                                                  \
         int sign = compared(fcinfo);                                                                                                   \
                                                                                                                                        \
@@ -55,5 +54,4 @@ COMPARISON(le, sign <= 0)
 COMPARISON(gt, sign > 0)
 COMPARISON(ge, sign >= 0)
 
-PG_FUNCTION_INFO_V1(idset_cmp);
-Datum idset_cmp(PG_FUNCTION_ARGS) { PG_RETURN_INT32(compared(fcinfo)); }
+FUNCTION(cmp) { PG_RETURN_INT32(compared(fcinfo)); }

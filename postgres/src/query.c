@@ -72,14 +72,15 @@ static void end_operators(parse *it, bool or_too)
 
 static void read_number(parse *it)
 {
-    uint64 number;
+    uint32 id;
+    bool fits;
 
     if (*it->at < '0' || *it->at > '9')
         refuse_query(it, "A number is missing.");
-    it->at = read_digits(it->at, &number);
-    if (number > UINT32_MAX)
-        refuse_query(it, "The ids of an idset are from 0 to 4294967295.");
-    append(it, ID, (uint32)number, false);
+    it->at = read_digits(it->at, &id, &fits);
+    if (!fits)
+        refuse_query(it, ID_RANGE);
+    append(it, ID, id, false);
     end_operand(it);
 }
 

@@ -6,34 +6,34 @@ enum { CHUNK = 8500 };
 
 /* The sets of the two arguments. */
 typedef struct {
-    bitpacking_set sets[2];
+    set_view sets[2];
     size_t len[2];
 } two_sets;
 
-static two_sets both(bitpacking_set one, bitpacking_set other)
+static two_sets both(set_view one, set_view other)
 {
-    return (two_sets){{one, other}, {bitpacking_set_len(&one), bitpacking_set_len(&other)}};
+    return (two_sets){{one, other}, {CALL(len)(&one), CALL(len)(&other)}};
 }
 
 static two_sets opened_two(FunctionCallInfo fcinfo)
 {
-    bitpacking_set one = opened_argument(fcinfo, 0);
+    set_view one = opened_argument(fcinfo, 0);
 
     return both(one, opened_argument(fcinfo, 1));
 }
 
 /* Puts the set that an operation on sets gives at a new value, and returns its number of bytes, or an error of the library. Room for the bytes of
  * all sets, and of a chunk more, is usually enough. It doubles until it is. */
-ptrdiff_t combine(uint32 operation, const bitpacking_set *sets, size_t count, struct varlena **value)
+ptrdiff_t combine(uint32 operation, const set_view *sets, size_t count, struct varlena **value)
 {
-    size_t items = bitpacking_set_combine_room(sets, count), room = CHUNK, i;
-    uint32 *work = new_ids(items);
+    size_t items = work_items(operation, sets, count), room = CHUNK, i;
+    void *work = palloc_extended(WORK_ITEM * (items ? items : 1), MCXT_ALLOC_HUGE);
     ptrdiff_t size;
 
     for (i = 0; i < count; i++)
         room += sets[i].bytes_len;
     *value = palloc_extended(VARHDRSZ + room, MCXT_ALLOC_HUGE);
-    while ((size = bitpacking_set_combine(operation, sets, count, work, items, (uint8_t *)VARDATA(*value), room)) == BITPACKING_SHORT) {
+    while ((size = combine_into(operation, sets, count, work, items, (uint8_t *)VARDATA(*value), room)) == BITPACKING_SHORT) {
         room *= 2;
         pfree(*value);
         *value = palloc_extended(VARHDRSZ + room, MCXT_ALLOC_HUGE);
@@ -43,7 +43,7 @@ ptrdiff_t combine(uint32 operation, const bitpacking_set *sets, size_t count, st
 }
 
 /* The set that an operation on sets gives. */
-Datum combined(uint32 operation, const bitpacking_set *sets, size_t count)
+Datum combined(uint32 operation, const set_view *sets, size_t count)
 {
     struct varlena *value;
     ptrdiff_t size = combine(operation, sets, count, &value);
@@ -56,7 +56,7 @@ Datum combined(uint32 operation, const bitpacking_set *sets, size_t count)
 /* How many ids both sets have. */
 static size_t common(const two_sets *it)
 {
-    ptrdiff_t count = bitpacking_set_count_common(it->sets, 2);
+    ptrdiff_t count = count_common(it->sets);
 
     if (count < 0)
         refuse(count);
@@ -65,25 +65,24 @@ static size_t common(const two_sets *it)
 
 /* A function of two sets, `it`, by what it returns. */
 #define OF_TWO(name, result)                                                                                                           \
-    PG_FUNCTION_INFO_V1(name);                                                                                                         \
-    Datum name(PG_FUNCTION_ARGS)                                                                                                       \
+    FUNCTION(name)                                                                                                                     \
     {                                                                                                                                  \
         two_sets it = opened_two(fcinfo);                                                                                              \
                                                                                                                                        \
         return result;                                                                                                                 \
     }
 
-OF_TWO(idset_intersect, combined(BITPACKING_AND, it.sets, 2))
-OF_TWO(idset_unite, combined(BITPACKING_OR, it.sets, 2))
-OF_TWO(idset_subtract, combined(BITPACKING_AND_NOT, it.sets, 2))
-OF_TWO(idset_symmetric_difference, combined(BITPACKING_XOR, it.sets, 2))
-OF_TWO(idset_intersect_len, Int64GetDatum((int64)common(&it)))
-OF_TWO(idset_unite_len, Int64GetDatum((int64)(it.len[0] + it.len[1] - common(&it))))
-OF_TWO(idset_subtract_len, Int64GetDatum((int64)(it.len[0] - common(&it))))
-OF_TWO(idset_symmetric_difference_len, Int64GetDatum((int64)(it.len[0] + it.len[1] - 2 * common(&it))))
-OF_TWO(idset_overlaps, BoolGetDatum(bitpacking_set_is_disjoint(&it.sets[0], &it.sets[1]) == 0))
-OF_TWO(idset_contains_all, BoolGetDatum(bitpacking_set_is_subset(&it.sets[1], &it.sets[0]) == 1))
-OF_TWO(idset_contained, BoolGetDatum(bitpacking_set_is_subset(&it.sets[0], &it.sets[1]) == 1))
+OF_TWO(intersect, combined(BITPACKING_AND, it.sets, 2))
+OF_TWO(unite, combined(BITPACKING_OR, it.sets, 2))
+OF_TWO(subtract, combined(BITPACKING_AND_NOT, it.sets, 2))
+OF_TWO(symmetric_difference, combined(BITPACKING_XOR, it.sets, 2))
+OF_TWO(intersect_len, Int64GetDatum((int64)common(&it)))
+OF_TWO(unite_len, Int64GetDatum((int64)(it.len[0] + it.len[1] - common(&it))))
+OF_TWO(subtract_len, Int64GetDatum((int64)(it.len[0] - common(&it))))
+OF_TWO(symmetric_difference_len, Int64GetDatum((int64)(it.len[0] + it.len[1] - 2 * common(&it))))
+OF_TWO(overlaps, BoolGetDatum(CALL(is_disjoint)(&it.sets[0], &it.sets[1]) == 0))
+OF_TWO(contains_all, BoolGetDatum(CALL(is_subset)(&it.sets[1], &it.sets[0]) == 1))
+OF_TWO(contained, BoolGetDatum(CALL(is_subset)(&it.sets[0], &it.sets[1]) == 1))
 
 /* How many ids both have, of those that any has; 1 for two empty sets, which are equal. */
 static float8 jaccard(const two_sets *it)
@@ -93,38 +92,36 @@ static float8 jaccard(const two_sets *it)
     return any ? (float8)shared / (float8)any : 1.0;
 }
 
-OF_TWO(idset_jaccard, Float8GetDatum(jaccard(&it)))
+OF_TWO(jaccard, Float8GetDatum(jaccard(&it)))
 
 /* A set of one id, over bytes of the caller. */
-static bitpacking_set set_of(uint32 id, uint8_t bytes[BITPACKING_SET_ROOM(1)])
+static set_view set_of(set_id id, uint8_t bytes[ROOM(1)])
 {
-    bitpacking_set set = BITPACKING_SET_EMPTY;
-    ptrdiff_t size = bitpacking_set_pack(&id, 1, bytes, BITPACKING_SET_ROOM(1), NULL);
+    set_view set = NO_IDS;
+    ptrdiff_t size = pack(&id, 1, bytes, ROOM(1));
 
-    bitpacking_set_open_tested(bytes, (size_t)size, &set);
+    CALL(open_tested)(bytes, (size_t)size, &set);
     return set;
 }
 
-PG_FUNCTION_INFO_V1(idset_add);
-Datum idset_add(PG_FUNCTION_ARGS)
+FUNCTION(add)
 {
-    uint8_t bytes[BITPACKING_SET_ROOM(1)];
+    uint8_t bytes[ROOM(1)];
     two_sets it = both(opened_argument(fcinfo, 0), set_of(as_id(PG_GETARG_INT64(1)), bytes));
 
     return combined(BITPACKING_OR, it.sets, 2);
 }
 
 /* The set without a number. No set has a number that is out of range. */
-PG_FUNCTION_INFO_V1(idset_remove);
-Datum idset_remove(PG_FUNCTION_ARGS)
+FUNCTION(remove)
 {
-    bitpacking_set set = opened_argument(fcinfo, 0);
+    set_view set = opened_argument(fcinfo, 0);
     int64 number = PG_GETARG_INT64(1);
-    uint8_t bytes[BITPACKING_SET_ROOM(1)];
+    uint8_t bytes[ROOM(1)];
     two_sets it;
 
-    if (number < 0 || number > UINT32_MAX)
+    if (number < 0 || number > MOST_NUMBER)
         PG_RETURN_DATUM(PG_GETARG_DATUM(0));
-    it = both(set, set_of((uint32)number, bytes));
+    it = both(set, set_of((set_id)number, bytes));
     return combined(BITPACKING_AND_NOT, it.sets, 2);
 }

@@ -8,7 +8,7 @@
 
 static void pg_attribute_noreturn() refuse_text(const char *text, const char *why)
 {
-    ereport(ERROR, (errcode(ERRCODE_INVALID_TEXT_REPRESENTATION), errmsg("invalid input syntax for type idset: \"%s\"", text),
+    ereport(ERROR, (errcode(ERRCODE_INVALID_TEXT_REPRESENTATION), errmsg("invalid input syntax for type " TYPE_NAME ": \"%s\"", text),
                     errdetail("%s", why)));
 }
 
@@ -20,29 +20,27 @@ static const char *after_spaces(const char *at)
 }
 
 /* Reads an id, and returns what is after it. */
-static const char *read_id(const char *at, const char *text, uint32 *id)
+static const char *read_id(const char *at, const char *text, set_id *id)
 {
     const char *start = at = after_spaces(at);
     bool negative = *at == '-';
-    uint64 number;
+    bool fits;
 
-    at = read_digits(at + negative, &number);
+    at = read_digits(at + negative, id, &fits);
     if (at == start + negative)
         refuse_text(text, "A number is missing.");
-    if (number > UINT32_MAX || (negative && number > 0))
+    if (!fits || (negative && *id > 0))
         ereport(ERROR, (errcode(ERRCODE_NUMERIC_VALUE_OUT_OF_RANGE),
-                        errmsg("value \"%.*s\" is out of range for idset", (int)(at - start < 40 ? at - start : 40), start),
-                        errdetail("The ids of an idset are from 0 to 4294967295.")));
-    *id = (uint32)number;
+                        errmsg("value \"%.*s\" is out of range for " TYPE_NAME, (int)(at - start < 40 ? at - start : 40), start),
+                        errdetail(ID_RANGE)));
     return after_spaces(at);
 }
 
 /* Takes ids in any order, also one twice. */
-PG_FUNCTION_INFO_V1(idset_in);
-Datum idset_in(PG_FUNCTION_ARGS)
+FUNCTION(in)
 {
     const char *text = PG_GETARG_CSTRING(0), *at = after_spaces(text);
-    uint32 *ids = new_ids(strlen(text) / 2);
+    set_id *ids = new_ids(strlen(text) / 2);
     size_t len = 0;
 
     if (*at != '{')
@@ -61,23 +59,22 @@ Datum idset_in(PG_FUNCTION_ARGS)
     PG_RETURN_POINTER(packed(ids, made_set(ids, len)));
 }
 
-PG_FUNCTION_INFO_V1(idset_out);
-Datum idset_out(PG_FUNCTION_ARGS)
+FUNCTION(out)
 {
-    bitpacking_set set = opened(PG_GETARG_VARLENA_PP(0));
-    uint32 ids[PIECE];
+    set_view set = opened(PG_GETARG_VARLENA_PP(0));
+    set_id ids[PIECE];
     size_t from, count, i;
     StringInfoData text;
 
     initStringInfo(&text);
     appendStringInfoChar(&text, '{');
-    for (from = 0; (count = (size_t)bitpacking_set_slice(&set, from, ids, PIECE)) > 0; from += count) {
+    for (from = 0; (count = (size_t)CALL(slice)(&set, from, ids, PIECE)) > 0; from += count) {
         CHECK_FOR_INTERRUPTS();
-        enlargeStringInfo(&text, (int)(11 * count));
+        enlargeStringInfo(&text, (int)(LONGEST_ID * count));
         for (i = 0; i < count; i++) {
             if (from + i > 0)
                 text.data[text.len++] = ',';
-            text.len += pg_ultoa_n(ids[i], text.data + text.len);
+            text.len += DIGITS_OF(ids[i], text.data + text.len);
         }
     }
     appendStringInfoChar(&text, '}');

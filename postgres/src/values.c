@@ -5,22 +5,22 @@
 #include "utils/memutils.h"
 
 #define ST_SORT sort_numbers
-#define ST_ELEMENT_TYPE uint32
+#define ST_ELEMENT_TYPE set_id
 #define ST_COMPARE(a, b) (*(a) < *(b) ? -1 : *(a) > *(b))
 #define ST_SCOPE static
 #define ST_CHECK_FOR_INTERRUPTS
 #define ST_DEFINE
 #include "lib/sort_template.h"
 
-void sort_ids(uint32 *ids, size_t len) { sort_numbers(ids, len); }
+void sort_ids(set_id *ids, size_t len) { sort_numbers(ids, len); }
 
 /* Room for ids, which may take more than PostgreSQL's usual limit of 1 GB. */
-uint32 *new_ids(size_t len)
+set_id *new_ids(size_t len)
 {
-    return palloc_extended(sizeof(uint32) * (len ? len : 1), MCXT_ALLOC_HUGE);
+    return palloc_extended(sizeof(set_id) * (len ? len : 1), MCXT_ALLOC_HUGE);
 }
 
-static bool increases(const uint32 *ids, size_t len)
+static bool increases(const set_id *ids, size_t len)
 {
     size_t i;
 
@@ -31,9 +31,9 @@ static bool increases(const uint32 *ids, size_t len)
 
 /* Ids that are dense enough, by a bitmap below their greatest: each once, or, if odd, each that is there an odd number of times. Returns how
  * many there are then, or len + 1 if they are not dense enough. */
-static size_t made_by_bits(uint32 *ids, size_t len, bool odd)
+static size_t made_by_bits(set_id *ids, size_t len, bool odd)
 {
-    uint32 most = 0;
+    set_id most = 0;
     uint64 *bits;
     size_t i, words, count = 0;
 
@@ -52,13 +52,13 @@ static size_t made_by_bits(uint32 *ids, size_t len, bool odd)
     CHECK_FOR_INTERRUPTS();
     for (i = 0; i < words; i++)
         for (uint64 word = bits[i]; word; word &= word - 1)
-            ids[count++] = (uint32)(64 * i) + (uint32)__builtin_ctzll(word);
+            ids[count++] = (set_id)(64 * i) + (set_id)__builtin_ctzll(word);
     pfree(bits);
     return count;
 }
 
 /* Sorts ids and leaves each once. Returns how many there are then. */
-size_t made_set(uint32 *ids, size_t len)
+size_t made_set(set_id *ids, size_t len)
 {
     size_t count = 1, i;
 
@@ -74,7 +74,7 @@ size_t made_set(uint32 *ids, size_t len)
 }
 
 /* Sorts ids and leaves once each that is there an odd number of times. Returns how many there are then. */
-size_t kept_odd(uint32 *ids, size_t len)
+size_t kept_odd(set_id *ids, size_t len)
 {
     size_t count = 0, i;
 
@@ -91,27 +91,40 @@ size_t kept_odd(uint32 *ids, size_t len)
     return count;
 }
 
-/* Reads digits, and returns what is after them. A number above all ids stays above them. */
-const char *read_digits(const char *at, uint64 *number)
+/* Reads digits, and returns what is after them. An id that does not fit is above all ids. */
+const char *read_digits(const char *at, set_id *id, bool *fits)
 {
-    for (*number = 0; *at >= '0' && *at <= '9'; at++)
-        *number = *number > UINT32_MAX ? *number : 10 * *number + (uint64)(*at - '0');
+    for (*id = 0, *fits = true; *at >= '0' && *at <= '9'; at++) {
+        set_id digit = (set_id)(*at - '0');
+
+        *fits = *fits && *id <= (MOST_ID - digit) / 10;
+        *id = 10 * *id + digit;
+    }
     return at;
 }
 
 /* A number that is to be an id of a set. */
-uint32 as_id(int64 number)
+set_id as_id(int64 number)
 {
-    if (number < 0 || number > UINT32_MAX)
-        ereport(ERROR, (errcode(ERRCODE_NUMERIC_VALUE_OUT_OF_RANGE), errmsg("value %lld is out of range for idset", (long long)number),
-                        errdetail("The ids of an idset are from 0 to 4294967295.")));
-    return (uint32)number;
+    if (number < 0 || number > MOST_NUMBER)
+        ereport(ERROR, (errcode(ERRCODE_NUMERIC_VALUE_OUT_OF_RANGE), errmsg("value %lld is out of range for " TYPE_NAME, (long long)number),
+                        errdetail(ID_RANGE)));
+    return (set_id)number;
+}
+
+/* An id as a bigint. */
+int64 as_number(set_id id)
+{
+    if (id > MOST_NUMBER)
+        ereport(ERROR, (errcode(ERRCODE_NUMERIC_VALUE_OUT_OF_RANGE), errmsg("value %llu is out of range for type bigint", (unsigned long long)id),
+                        errhint("Cast to text.")));
+    return (int64)id;
 }
 
 /* How many ids of a set are below a number. */
-size_t rank_of(const bitpacking_set *set, int64 number)
+size_t rank_of(const set_view *set, int64 number)
 {
-    if (number > UINT32_MAX)
-        return bitpacking_set_len(set);
-    return number <= 0 ? 0 : bitpacking_set_rank(set, (uint32)number);
+    if (number > MOST_NUMBER)
+        return CALL(len)(set);
+    return number <= 0 ? 0 : CALL(rank)(set, (set_id)number);
 }

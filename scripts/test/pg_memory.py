@@ -16,6 +16,8 @@ SELF = "SELECT pg_read_file('/proc/self/status'), pg_read_file('/proc/self/stat'
 TICKS = 100
 TABLES = """CREATE TABLE stored AS SELECT n, idset(ARRAY(SELECT i * 20 + n % 20 FROM generate_series(1, 3000) i)) AS ids FROM generate_series(1, 2000) n;
 CREATE TABLE short AS SELECT n, '{21,41}'::idset AS ids FROM generate_series(1, 2) n;
+CREATE TABLE short8 AS SELECT n, ids::int8[]::idset8 AS ids FROM short;
+CREATE TABLE stored8 AS SELECT n, ids::int8[]::idset8 AS ids FROM stored WHERE n < 3;
 CREATE TABLE two AS SELECT idset(ARRAY(SELECT generate_series(1, 40000, 2))) AS a, idset(ARRAY(SELECT generate_series(2, 40000, 2))) AS b;
 CREATE TABLE mixed AS SELECT ARRAY(SELECT (i::int8 * 2654435761 % 2147483647)::int4 FROM generate_series(1, 5000000) i) AS a,
     ARRAY(SELECT (i::int8 * 2654435761 % 5000011)::int4 FROM generate_series(1, 5000000) i) AS dense;
@@ -33,6 +35,17 @@ SPACE = {
     "an OR keeps each id once": (f"SELECT cardinality(unite_agg(ids)) FROM {ALIKE}", "10000", 30),
     "a XOR keeps each id once": (f"SELECT cardinality(symmetric_difference_agg(ids)) FROM {ALIKE}", "0", 30),
     "an OR of many sets keeps few": ("SELECT cardinality(unite_agg(ids)) FROM stored, generate_series(1, 10)", "60000", 40),
+    "a sort of wide sets frees its copies": (
+        "SELECT count(*) FROM (SELECT ids::int8[]::idset8 AS x FROM stored ORDER BY x OFFSET 0) q",
+        "2000",
+        60,
+    ),
+    "an OR of wide sets keeps each id once": (f"SELECT cardinality(unite_agg(ids::int8[]::idset8)) FROM {ALIKE}", "10000", 40),
+    "an OR of many wide sets keeps few": (
+        "SELECT cardinality(unite_agg(ids::int8[]::idset8)) FROM stored, generate_series(1, 3)",
+        "60000",
+        60,
+    ),
     "an index build frees its copies": ("CREATE INDEX ON stored (n) WHERE ids < '{1,2}'", "", 60),
 }
 
@@ -88,9 +101,10 @@ def kept_constant(server):
 
 def kept_stored(server):
     """A set in TOAST is opened once for all rows: those of a subquery take as long as those of a short one."""
-    sql = "SELECT count(*) FROM generate_series(1, 240000) i WHERE (SELECT ids FROM {} WHERE n = 1) @> i"
-    short, long = (seconds(server, sql.format(it)) for it in ("short", "stored"))
-    yield "a stored set is opened once", None if long < 2 * short + 0.1 else f"{short:.2f} and {long:.2f} s"
+    for kind in ("", "8"):
+        sql = f"SELECT count(*) FROM generate_series(1, 240000) i WHERE (SELECT ids FROM {{}}{kind} WHERE n = 1) @> i"
+        short, long = (seconds(server, sql.format(it)) for it in ("short", "stored"))
+        yield f"a stored idset{kind} is opened once", None if long < 2 * short + 0.1 else f"{short:.2f} and {long:.2f} s"
 
 
 def dense_by_bits(server):

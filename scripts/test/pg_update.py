@@ -34,13 +34,14 @@ ASKED = {
 # All objects of the extension with what they are.
 OBJECTS = """SELECT pg_describe_object(classid, objid, 0), p.prosrc, p.probin, p.procost, p.prorows, p.prosupport::regproc, p.provolatile, p.proparallel,
     p.proisstrict, p.proargnames, p.proretset, p.prorettype::regtype, pg_get_function_sqlbody(p.oid), a, o.oprcom::regoperator,
-    o.oprnegate::regoperator, o.oprrest, o.oprjoin, o.oprcanhash, t.typanalyze, t.typstorage, t.typalign, c.castcontext
+    o.oprnegate::regoperator, o.oprrest, o.oprjoin, o.oprcanhash, t.typanalyze, t.typstorage, t.typalign, t.typcategory, t.typispreferred,
+    c.castcontext
 FROM pg_depend d LEFT JOIN pg_proc p ON p.oid = objid LEFT JOIN pg_aggregate a ON a.aggfnoid = objid LEFT JOIN pg_operator o ON o.oid = objid
     LEFT JOIN pg_type t ON t.oid = objid LEFT JOIN pg_cast c ON c.oid = objid
 WHERE d.deptype = 'e' AND d.refobjid = (SELECT oid FROM pg_extension WHERE extname = 'idset')
 UNION ALL SELECT pg_describe_object('pg_amop'::regclass, oid, 0), VARIADIC_NULLS FROM pg_amop
     WHERE amopopr IN (SELECT objid FROM pg_depend WHERE deptype = 'e' AND classid = 'pg_operator'::regclass) ORDER BY 1"""
-OBJECTS = OBJECTS.replace("VARIADIC_NULLS", ", ".join(["NULL"] * 22))
+OBJECTS = OBJECTS.replace("VARIADIC_NULLS", ", ".join(["NULL"] * 24))
 
 
 def answers(server, database):

@@ -30,8 +30,8 @@ from pg_server import Programs, Server
 
 PAGE = "docs/POSTGRES.md"
 # Catches the error of a cast from bytea.
-SAID = """CREATE FUNCTION said(bytes bytea) RETURNS text LANGUAGE plpgsql AS
-'BEGIN RETURN bytes::idset::text; EXCEPTION WHEN OTHERS THEN RETURN SQLSTATE || '' '' || SQLERRM; END';"""
+SAID = """CREATE FUNCTION said_{0}(bytes bytea) RETURNS text LANGUAGE plpgsql AS
+'BEGIN RETURN bytes::{0}::text; EXCEPTION WHEN OTHERS THEN RETURN SQLSTATE || '' '' || SQLERRM; END';"""
 # The most ids of ten digits whose text has at most 1,000,000,000 bytes.
 MOST_IDS = 90_909_090
 # What the address sanitizer is told, and functions in place of those that translate, which wait for ever in a program that it was loaded into.
@@ -87,7 +87,7 @@ def library(extension):
     """The checks of idset.so."""
     path = f"{extension.programs.folder}{pg_server.config('pkglibdir')}/idset.so"
     named = run("nm", "-D", "--defined-only", path).stdout.split()[2::3]
-    others = [it for it in named if not re.match(r"(pg_finfo_)?idset_|Pg_magic_func$", it)]
+    others = [it for it in named if not re.match(r"(pg_finfo_)?idset8?_|Pg_magic_func$", it)]
     yield "the names of idset.so", f"it exports {others}" if others or not named else None
 
 
@@ -108,16 +108,20 @@ def compared(what, server, before, asked):
 
 def vectors(server):
     """The tables of vectors/: sets with their ids, and refused bytes with the text of the fault."""
-    asked = []
-    for row in rows.table("id_sets.tsv"):
-        data, ids = rows.octets(row["bytes"]), "{" + ",".join(map(str, rows.spelled_ids(row["ids"]))) + "}"
-        value = f"'\\x{data.hex()}'::bytea::idset"
-        asked.append((f"SELECT {value}::int8[] = '{ids}' AND '{ids}'::idset::bytea = '\\x{data.hex()}'", "t"))
-    yield from compared("the sets of vectors/", server, "", asked)
-    texts, asked = fault_texts(), []
-    for row in rows.table("refused_id_sets.tsv"):
-        asked.append((f"SELECT said('\\x{rows.octets(row['bytes']).hex()}')", f"22P03 invalid idset: {texts[-20 - int(row['number'])]}"))
-    yield from compared("the refused bytes of vectors/", server, SAID, asked)
+    texts = fault_texts()
+    for kind, sets, refused in [("idset", "id_sets", "refused_id_sets"), ("idset8", "wide_sets", "refused_wide_sets")]:
+        asked = []
+        for row in rows.table(f"{sets}.tsv"):
+            data, ids = rows.octets(row["bytes"]), "{" + ",".join(map(str, rows.spelled_ids(row["ids"]))) + "}"
+            value = f"'\\x{data.hex()}'::bytea::{kind}"
+            numbers = f"{value}::int8[] = '{ids}'" if kind == "idset" else f"{value}::text = '{ids}'"
+            asked.append((f"SELECT {numbers} AND '{ids}'::{kind}::bytea = '\\x{data.hex()}'", "t"))
+        yield from compared(f"the sets of vectors/{sets}.tsv", server, "", asked)
+        asked = []
+        for row in rows.table(f"{refused}.tsv"):
+            fault = f"22P03 invalid {kind}: {texts[-20 - int(row['number'])]}"
+            asked.append((f"SELECT said_{kind}('\\x{rows.octets(row['bytes']).hex()}')", fault))
+        yield from compared(f"the bytes of vectors/{refused}.tsv", server, SAID.format(kind), asked)
 
 
 def varint(number):
