@@ -48,7 +48,10 @@ def checks(extension, server):
     def failing(room, tests):
         with alone:
             installed(extension, f"{room}/postgres")
-            return [it for it in tests if fails(extension, server, f"{room}/postgres", it, came)]
+            found = [it for it in tests if fails(extension, server, f"{room}/postgres", it, came)]
+            # A wrong version may crash it.
+            server.ready()
+            return found
 
     yield from trying.each("postgres", copied, built, failing, at_once=2)
     installed(extension, extension.sources)
