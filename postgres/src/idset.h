@@ -1,6 +1,6 @@
-/* What the files of the extension share. A value of a type is a set of ids: those of idset are from 0 to 4294967295, those of idset8 below 2^64.
- * After the length that PostgreSQL puts before them, its bytes are those of an id set, or of a wide set, as docs/FORMAT.md has them: one set has
- * one form. PostgreSQL keeps the bytes unchanged during a call. They may be at any address.
+/* What the files of the extension share. A value is a set of ids: an idset has ids from 0 to 4294967295, an idset8 ids below 2^64. PostgreSQL puts the
+ * length of a value first. The bytes after it are an id set or a wide set (docs/FORMAT.md), so each set has one form. PostgreSQL keeps the bytes
+ * unchanged during a call. They may be at any address.
  *
  * The files that both types need are compiled twice: each by itself for idset, and all in idset8.c, which defines WIDE, for idset8. */
 #ifndef IDSET_H
