@@ -8,11 +8,9 @@ use super::{Error, WideSet, WideSetBuf};
 use crate::growing::{Growing, resize};
 use crate::set::comparing::share;
 use crate::set::pairs::operations;
+use crate::sets::encoding::order::LONGEST_SET;
 use crate::slices::Operation;
 use crate::wide;
-
-/// The most ids of a set.
-const MOST: usize = 1 << 28;
 
 /// Two wide sets combined. A call that returns a set allocates its bytes and, while it runs, 12 bytes for each id that the answer may have: as many
 /// as the shorter set has for `&`, as the first has for `-`, and else as both have. If the sets have fewer bytes than that, the call counts the ids
@@ -29,7 +27,7 @@ impl WideSet {
             Operation::Or | Operation::Xor => self.len() + other.len(),
         };
         let bytes = self.as_bytes().len() + other.as_bytes().len();
-        if bytes < most || most > MOST { self.combine_len(operation, other) } else { most }
+        if bytes < most || most > LONGEST_SET { self.combine_len(operation, other) } else { most }
     }
 
     /// The set that an operation on two sets gives. Panics if there is an error.
@@ -43,7 +41,7 @@ impl WideSet {
 
     fn try_combine(&self, operation: Operation, other: &WideSet) -> Result<WideSetBuf, Error> {
         let room = self.room(operation, other);
-        if room > MOST {
+        if room > LONGEST_SET {
             return Err(Error::TooLong(room));
         }
         let (mut ids, mut space) = (Vec::new(), Vec::new());

@@ -167,7 +167,7 @@ impl WideSet {
     /// ```
     /// use bitpacking::set::wide::WideSetBuf;
     ///
-    /// // The high 32 bits of an id are the number of a shop, 3 or 8, and the low ones that of an order.
+    /// // An id has the number of a shop, 3 or 8, in its high 32 bits, and the number of an order in its low ones.
     /// let orders: WideSetBuf = [3, 8].into_iter().flat_map(|shop| (100..200).map(move |order| (shop << 32) + order)).collect();
     /// let shop = orders.part(8).unwrap();
     /// assert_eq!((shop.len(), shop.min(), shop.contains(150)), (100, Some(100), true));
